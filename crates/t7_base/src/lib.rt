@@ -1,0 +1,22 @@
+//! What every layer shares: values with their ranges, the order as the feed shows it, the messages of the live channel,
+//! the product, and the outside as traits with their forms in memory and their real forms.
+#![tactic(auto)]
+
+mod ids;
+mod memory;
+mod note;
+mod octet;
+mod outside;
+mod product;
+mod public;
+mod real;
+mod values;
+
+pub use ids::{OrderId, SecurityId, SessionId, Side};
+pub use memory::{MemoryFiles, MemorySink};
+pub use octet::Octets;
+pub use outside::{Failed, Files, Sink, Taken};
+pub use product::Product;
+pub use public::{Public, Resting};
+pub use real::{RealFiles, RealSink};
+pub use values::{Moment, Price, Qty, Stamp};
