@@ -13,7 +13,7 @@ mod public;
 mod real;
 mod values;
 
-pub use ids::{OrderId, SecurityId, SessionId, Side};
+pub use ids::{Channel, Feed, OrderId, SecurityId, SessionId, Side};
 pub use memory::{MemoryFiles, MemorySink};
 pub use octet::Octets;
 pub use outside::{Failed, Files, Sink, Taken};
@@ -21,3 +21,6 @@ pub use product::{Product, ProductRefusal, ProductWhy};
 pub use public::{Public, Resting};
 pub use real::{RealFiles, RealSink};
 pub use values::{Moment, Price, Qty, Stamp};
+
+#[cfg(test)]
+mod tests;

@@ -42,6 +42,12 @@ const SESSION: Range = Range {
     most: 4_000_000_000,
 };
 
+fn from_to(least: u64, most: u64) -> Range
+    ensures { result ≡ record { least = least; most = most } }
+{
+    Range { least, most }
+}
+
 /// The range of the number in one of the first four records.
 #[tactic(auto, unfolding(crate::specs::ProductFile::fixed_range))]
 fn fixed_range(at: usize) -> Range
@@ -50,22 +56,10 @@ fn fixed_range(at: usize) -> Range
     ensures bounded { result.most < 2 ^ 32 }
 {
     match at {
-        0 => Range {
-            least: 1,
-            most: 2_147_483_647,
-        },
-        1 => Range {
-            least: 1,
-            most: 65_536,
-        },
-        2 => Range {
-            least: 1,
-            most: 4_096,
-        },
-        _ => Range {
-            least: 256,
-            most: 1_472,
-        },
+        0 => from_to(1, 2_147_483_647),
+        1 => from_to(1, 65_536),
+        2 => from_to(1, 4_096),
+        _ => from_to(256, 1_472),
     }
 }
 
