@@ -1,0 +1,7 @@
+pub mod FaultFacts
+pub mod GrammarFacts
+pub mod ItemFacts
+pub mod MessageFacts
+pub mod RangeFacts
+pub mod SayingFacts
+pub mod WalkFacts

@@ -1,0 +1,25 @@
+//! Market data: datagrams read in place, and the messages that the exchange casts.
+#![tactic(auto)]
+
+mod faults;
+mod laws;
+mod messages;
+mod packet;
+mod ranges;
+mod records;
+mod walks;
+mod write;
+
+pub use faults::{PacketFault, PacketWhy};
+pub use laws::{
+    datagrams_are_messages_behind_a_header, datagrams_read_again, items_are_in_their_ranges,
+    what_is_written_is_said,
+};
+pub use packet::Packet;
+pub use walks::{Live, LiveWalk, Snap, SnapWalk};
+pub use write::{write_beat, write_header, write_public, write_snap};
+
+#[cfg(test)]
+mod sample;
+#[cfg(test)]
+mod tests;

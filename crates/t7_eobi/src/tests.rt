@@ -1,0 +1,205 @@
+// Datagrams of the sample table, read and written.
+
+ghost use Rattle.std.specs.Prelude.{◌≡◌, IfSome, pos};
+
+use super::*;
+use crate::sample::SAMPLE;
+use std::test::Fail;
+use t7_base::{Channel, Price, Public, Qty, Resting, SecurityId, Side, Stamp};
+use t7_layout::Table;
+
+// Datagram 1 of segment 7: message 1, a buy of 50 of security 1001 at 100 with stamp 1.
+const LIVE: [u8; 64] = [
+    0x10, 0x00, 0x01, 0x00, 0xff, 0xff, 0xff, 0xff, 0x01, 0x00, 0x00, 0x00, 0x07, 0x00, 0x00, 0x00,
+    0x30, 0x00, 0x03, 0x00, 0x01, 0x00, 0x00, 0x00, 0xe9, 0x03, 0x00, 0x00, 0x00, 0x00, 0x00, 0x00,
+    0x01, 0x00, 0x00, 0x00, 0x00, 0x00, 0x00, 0x00, 0x32, 0x00, 0x00, 0x00, 0x00, 0x00, 0x00, 0x00,
+    0x01, 0x00, 0x00, 0x00, 0x00, 0x00, 0x00, 0x00, 0x64, 0x00, 0x00, 0x00, 0x00, 0x00, 0x00, 0x00,
+];
+
+// Snapshot datagram 5 of segment 7: at message 1, one order of security 1001.
+const SNAP: [u8; 96] = [
+    0x10, 0x00, 0x01, 0x00, 0xff, 0xff, 0xff, 0xff, 0x05, 0x00, 0x00, 0x00, 0x07, 0x00, 0x00, 0x00,
+    0x10, 0x00, 0x0b, 0x00, 0xff, 0xff, 0xff, 0xff, 0x01, 0x00, 0x00, 0x00, 0x00, 0x00, 0x00, 0x00,
+    0x18, 0x00, 0x0c, 0x00, 0xff, 0xff, 0xff, 0xff, 0xe9, 0x03, 0x00, 0x00, 0x00, 0x00, 0x00, 0x00,
+    0x01, 0x00, 0x00, 0x00, 0x00, 0x00, 0x00, 0x00, 0x28, 0x00, 0x0d, 0x00, 0xff, 0xff, 0xff, 0xff,
+    0x01, 0x00, 0x00, 0x00, 0x00, 0x00, 0x00, 0x00, 0x32, 0x00, 0x00, 0x00, 0x00, 0x00, 0x00, 0x00,
+    0x01, 0x00, 0x00, 0x00, 0x00, 0x00, 0x00, 0x00, 0x64, 0x00, 0x00, 0x00, 0x00, 0x00, 0x00, 0x00,
+];
+
+// Datagram 9 of segment 7: a message 2 of template 99, a heartbeat at 3, and a message of template 99 without a number.
+const OTHERS: [u8; 56] = [
+    0x10, 0x00, 0x01, 0x00, 0xff, 0xff, 0xff, 0xff, 0x09, 0x00, 0x00, 0x00, 0x07, 0x00, 0x00, 0x00,
+    0x10, 0x00, 0x63, 0x00, 0x02, 0x00, 0x00, 0x00, 0x00, 0x00, 0x00, 0x00, 0x00, 0x00, 0x00, 0x00,
+    0x10, 0x00, 0x02, 0x00, 0xff, 0xff, 0xff, 0xff, 0x03, 0x00, 0x00, 0x00, 0x00, 0x00, 0x00, 0x00,
+    0x08, 0x00, 0x63, 0x00, 0x00, 0x00, 0x00, 0x00,
+];
+
+// The first fault of a datagram of segment 7.
+fn fault(table: &Table, channel: Channel, bytes: &[u8]) -> Option<(&'static str, usize)> {
+    match Packet::read(table, 7, channel, bytes) {
+        Ok(_) => None,
+        Err(fault) => Some((fault.why.text(), fault.place)),
+    }
+}
+
+// The order that LIVE adds.
+fn order() -> Option<Resting>
+    ensures { IfSome result (λ o. o.security ≡ pos 1001) }
+{
+    Some(Resting {
+        security: SecurityId(1001),
+        side: Side::Buy,
+        price: Price::new(100)?,
+        stamp: Stamp::new(1)?,
+        qty: Qty::new(50)?,
+    })
+}
+
+#[test]
+fn one_byte_makes_each_fault(rt: HostRuntime) -> Result<(), Fail> {
+    let table = Table::read(rt.alloc(), SAMPLE.as_bytes())?;
+    let cases = [
+        (Channel::Live, 64, 0, None),
+        (Channel::Live, 0, 0x07, Some(("cut", 0))),
+        (Channel::Live, 2, 0x02, Some(("no header", 0))),
+        (Channel::Live, 0, 0x08, Some(("length", 0))),
+        (Channel::Live, 8, 0x00, Some(("value", 0))),
+        (Channel::Live, 12, 0x08, Some(("product", 0))),
+        (Channel::Live, 16, 0x31, Some(("cut", 16))),
+        (Channel::Live, 16, 0x07, Some(("cut", 16))),
+        (Channel::Live, 18, 0x04, Some(("length", 16))),
+        (Channel::Live, 18, 0x63, None),
+        (Channel::Live, 18, 0x0d, None),
+        (Channel::Live, 18, 0x01, None),
+        (Channel::Live, 20, 0x00, Some(("value", 16))),
+        (Channel::Live, 48, 0xff, Some(("null", 16))),
+        (Channel::Live, 48, 0x03, Some(("value", 16))),
+        (Channel::Snap, 64, 0, None),
+        (Channel::Snap, 2, 0x02, Some(("no header", 0))),
+        (Channel::Snap, 12, 0x08, Some(("product", 0))),
+        (Channel::Snap, 16, 0x31, Some(("cut", 16))),
+        (Channel::Snap, 18, 0x04, Some(("length", 16))),
+        (Channel::Snap, 18, 0x0d, Some(("value", 16))),
+        (Channel::Snap, 20, 0x00, None),
+        (Channel::Snap, 48, 0xff, None),
+    ];
+    for (channel, place, byte, expected) in cases {
+        let mut bytes = LIVE;
+        if place < 64 {
+            bytes[place] = byte;
+        }
+        assert_eq!(rt; fault(&table, channel, &bytes), expected, "byte {place}");
+    }
+    Ok(())
+}
+
+#[test]
+fn a_datagram_is_cut_where_it_ends(rt: HostRuntime) -> Result<(), Fail> {
+    let table = Table::read(rt.alloc(), SAMPLE.as_bytes())?;
+    for end in 0..65 {
+        let expected = match end {
+            0..=15 => Some(("cut", 0)),
+            16 | 64 => None,
+            _ => Some(("cut", 16)),
+        };
+        assert_eq!(rt;
+            fault(&table, Channel::Live, &LIVE[..end]),
+            expected,
+            "end {end}"
+        );
+    }
+    assert_eq!(rt; fault(&table, Channel::Live, &[0; 1472]), Some(("cut", 0)));
+    assert_eq!(rt;
+        fault(&table, Channel::Live, &[0; 1473]),
+        Some(("too long", 1472))
+    );
+    Ok(())
+}
+
+// The number, the length and the first items of a live datagram of segment 7.
+fn lives(table: &Table, bytes: &[u8]) -> Option<(u32, usize, [Option<Live>; 3])> {
+    match Packet::read(table, 7, Channel::Live, bytes) {
+        Ok(packet) => {
+            let mut walk = packet.live();
+            let items = [walk.next(), walk.next(), walk.next()];
+            Some((packet.number(), packet.bytes().len(), items))
+        }
+        Err(_) => None,
+    }
+}
+
+// The first items of a snapshot datagram of segment 7.
+fn snaps(table: &Table, bytes: &[u8]) -> Option<[Option<Snap>; 4]> {
+    match Packet::read(table, 7, Channel::Snap, bytes) {
+        Ok(packet) => {
+            let mut walk = packet.snap();
+            Some([walk.next(), walk.next(), walk.next(), walk.next()])
+        }
+        Err(_) => None,
+    }
+}
+
+#[test]
+fn items_are_read_in_order(rt: HostRuntime) -> Result<(), Fail> {
+    let table = Table::read(rt.alloc(), SAMPLE.as_bytes())?;
+    let order = order().ok_or("order")?;
+    let (side, price, stamp, qty) = (order.side, order.price, order.stamp, order.qty);
+    let add = Some(Live::Message(1, Public::Add { order }));
+    assert_eq!(rt; lives(&table, &LIVE), Some((1, 64, [add, None, None])));
+    let other = Some(Live::Message(2, Public::Other));
+    assert_eq!(rt;
+        lives(&table, &OTHERS),
+        Some((9, 56, [other, Some(Live::Beat(3)), None]))
+    );
+    let security = SecurityId(1001);
+    let items = [
+        Some(Snap::Product(1)),
+        Some(Snap::Instrument { security, count: 1 }),
+        Some(Snap::Order {
+            side,
+            price,
+            stamp,
+            qty,
+        }),
+        None,
+    ];
+    assert_eq!(rt; snaps(&table, &SNAP), Some(items));
+    Ok(())
+}
+
+#[test]
+fn a_live_datagram_is_written(rt: HostRuntime) -> Result<(), Fail> {
+    let table = Table::read(rt.alloc(), SAMPLE.as_bytes())?;
+    let order = order().ok_or("order")?;
+    let mut out = [0; 512];
+    let header = write_header(&table, 7, 1, &mut out);
+    let add = write_public(&table, 1, &Public::Add { order }, &mut out[header..]);
+    assert_eq!(rt; &out[..header + add], LIVE.as_slice());
+    let beat = write_beat(&table, 3, &mut out);
+    assert_eq!(rt; &out[..beat], &OTHERS[32..48]);
+    Ok(())
+}
+
+#[test]
+fn a_snapshot_datagram_is_written(rt: HostRuntime) -> Result<(), Fail> {
+    let table = Table::read(rt.alloc(), SAMPLE.as_bytes())?;
+    let order = order().ok_or("order")?;
+    let (side, price, stamp, qty) = (order.side, order.price, order.stamp, order.qty);
+    let mut out = [0; 512];
+    let header = write_header(&table, 7, 5, &mut out);
+    let product = header + write_snap(&table, &Snap::Product(1), &mut out[header..]);
+    let instrument = Snap::Instrument {
+        security: SecurityId(1001),
+        count: 1,
+    };
+    let security = product + write_snap(&table, &instrument, &mut out[product..]);
+    let item = Snap::Order {
+        side,
+        price,
+        stamp,
+        qty,
+    };
+    let end = security + write_snap(&table, &item, &mut out[security..]);
+    assert_eq!(rt; &out[..end], SNAP.as_slice());
+    Ok(())
+}

@@ -1,0 +1,5 @@
+pub mod AgainFacts
+pub mod NullFacts
+pub mod OwnFacts
+pub mod RangeFacts
+pub mod SayingFacts

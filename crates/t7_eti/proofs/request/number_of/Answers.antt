@@ -1,0 +1,24 @@
+use Rattle.std.proofs.Common.{◌≡◌, ◌≢◌, ◌∙◌, Bool, true, false, None, Some, cond, sym, ap, arith}
+use Rattle.t7_eti.specs.Requests.{is_numbered}
+use Rattle.t7_eti.proofs.NullFacts.{number_equal, number_never, number_none, number_other, number_some}
+use Rattle.t7_eti.proofs.request.number_of.Goals as goal
+
+pub returns-then-not-is_numbered : goal.returns-then-not-is_numbered
+returns-then-not-is_numbered c =
+    let e : is_numbered c.args.m.now.role ≡ false = cc in
+    sym (number_never c.args.m.now e)
+
+pub returns-else-number : goal.returns-else-number
+returns-else-number c =
+    let e : is_numbered c.args.m.now.role ≡ true = cc in
+    let other : c.in-Some.number ≢ 4_294_967_295 = omega arith in
+    sym (number_some c.args.m.now c.said_word.result c.in-Some.number e c.said_word.ensures c.in-Some.is ∙ ap (λ (b : Bool). cond b None (Some c.in-Some.number)) (number_other c.in-Some.number other))
+
+pub returns-then-number : goal.returns-then-number
+returns-then-number c =
+    let e : is_numbered c.args.m.now.role ≡ true = cc in
+    let same : c.in-Some.number ≡ 4_294_967_295 = omega arith in
+    sym (number_some c.args.m.now c.said_word.result c.in-Some.number e c.said_word.ensures c.in-Some.is ∙ ap (λ (b : Bool). cond b None (Some c.in-Some.number)) (number_equal c.in-Some.number same))
+
+pub returns-in-None : goal.returns-in-None
+returns-in-None c = sym (number_none c.args.m.now c.said_word.result c.said_word.ensures c.in-None.is)

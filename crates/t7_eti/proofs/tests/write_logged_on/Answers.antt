@@ -1,0 +1,10 @@
+use Rattle.std.proofs.Common.{arith}
+use Rattle.t7_fields.specs.Writing.{IsOrdinary}
+use Rattle.t7_eti.specs.declared.response.Response.TheVariants as response
+use Rattle.t7_eti.specs.Saying.{response_fields}
+use Rattle.t7_eti.proofs.SayingFacts.{response_known}
+use Rattle.t7_eti.proofs.tests.write_logged_on.Goals as goal
+
+pub write_response-requires-clause-known : goal.write_response-requires-clause-known
+unfolding IsOrdinary response_fields
+write_response-requires-clause-known c = response_known c.args.table.now (response.Logon 1 30_000) c.templates-templates.ensures.table (λ e. omega arith, (λ e. omega arith, tt))

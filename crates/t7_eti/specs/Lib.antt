@@ -1,0 +1,6 @@
+pub mod Nulls
+pub mod Ranges
+pub mod Reasons
+pub mod Requests
+pub mod Responses
+pub mod Saying

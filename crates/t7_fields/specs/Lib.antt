@@ -1,0 +1,5 @@
+pub mod Messages
+pub mod Puts
+pub mod Records
+pub mod Spelling
+pub mod Writing

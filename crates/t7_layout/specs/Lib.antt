@@ -1,0 +1,10 @@
+pub mod Faults
+pub mod FirstFault
+pub mod Inside
+pub mod Layouts
+pub mod Lookups
+pub mod Refusals
+pub mod Roles
+pub mod Rows
+pub mod Tables
+pub mod Texts

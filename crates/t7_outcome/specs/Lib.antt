@@ -1,0 +1,4 @@
+pub mod Ending
+pub mod Outcome
+pub mod Steps
+pub mod Texts

@@ -1,0 +1,5 @@
+pub mod Asked
+pub mod Heartbeats
+pub mod Held
+pub mod Inside
+pub mod Steps

@@ -1,0 +1,6 @@
+pub mod Check
+pub mod Meaning
+pub mod Replay
+pub mod Script
+pub mod Text
+pub mod Words

@@ -1,0 +1,20 @@
+//! The top call: what the words ask for, over the files and the sink that are handed in.
+#![tactic(auto)]
+
+mod check;
+mod inputs;
+mod line;
+mod play;
+mod replay;
+#[cfg(test)]
+mod sample;
+mod script;
+mod show;
+#[cfg(test)]
+mod tests;
+mod text;
+mod top;
+mod words;
+
+pub use t7_outcome::Status;
+pub use top::run;
