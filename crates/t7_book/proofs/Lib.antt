@@ -1,0 +1,13 @@
+pub mod Rows
+pub mod TraceLemmas
+pub mod ListLemmas
+pub mod TradeLemmas
+pub mod Lists
+pub mod StepLemmas
+pub mod ApplyLemmas
+pub mod FirstTrade
+pub mod InOrder
+pub mod Makers
+pub mod Fit
+pub mod Running
+pub mod RunningDay

@@ -1,0 +1,7 @@
+-- The orders that a walk is still to give.
+use Rattle.std.specs.Prelude.{List}
+use Rattle.t7_book.specs.declared.order.Order.{Order}
+use Rattle.t7_book.specs.declared.orders.BookWalk.{BookWalk}
+
+abbrev pub walk_rest : BookWalk → List Order
+walk_rest w = w.rest.now

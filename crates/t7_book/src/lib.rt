@@ -1,0 +1,26 @@
+//! The price-time book of one product: it takes commands, and gives the messages of the market data feed,
+//! the notes for the owners of the orders, and an answer.
+//!
+//! Contracts see a book as one plain list of orders, in the order of the book, with the last id and the last stamp beside it.
+#![tactic(auto)]
+
+mod arrival;
+mod book;
+mod command;
+mod commit;
+mod laws;
+mod order;
+mod orders;
+pub mod priority;
+mod removal;
+mod trade;
+
+pub use book::Book;
+pub use command::{BookRefusal, Command, Done, Note};
+pub use laws::{markets_are_books, orders_trade_in_turn, traces_grow};
+pub use order::Order;
+pub use orders::BookWalk;
+pub use trade::Trade;
+
+#[cfg(test)]
+mod tests;

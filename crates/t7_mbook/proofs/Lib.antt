@@ -1,0 +1,4 @@
+pub mod Shown
+pub mod Leading
+pub mod Law
+pub mod Room

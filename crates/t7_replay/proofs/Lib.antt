@@ -1,0 +1,4 @@
+pub mod AskedFacts
+pub mod BoughtFacts
+pub mod CastFacts
+pub mod FloorFacts

@@ -1,0 +1,4 @@
+pub mod Asked
+pub mod Bought
+pub mod Cast
+pub mod Floor

@@ -1,0 +1,9 @@
+//! The exchange and the member of a replay: an order from the bytes of an ETI frame to the member's book.
+#![tactic(auto)]
+
+mod asked;
+mod bought;
+mod cast;
+mod floor;
+
+pub use floor::{Floor, Refusal};
