@@ -1,5 +1,5 @@
 -- The text of a layout table is the lines of its templates.
-use Rattle.std.proofs.Common.{◌≡◌, ℕ, List, [], ◌∷◌, ◌++◌, map, codes, refl, sym, ◌∙◌, ap, append_assoc}
+use Rattle.std.proofs.Common.{◌≡◌, ℕ, List, [], ◌∷◌, ◌++◌, map, refl, ◌∙◌, ap, append_assoc}
 use Rattle.std.specs.Fmt.{decimal}
 use Rattle.t7_layout.specs.Layouts.{Layout}
 use Rattle.t7_layout.specs.Rows.{family_text}

@@ -1,5 +1,5 @@
 -- A text that is cut off.
-use Rattle.std.proofs.Common.{◌≡◌, ℕ, List, [], ◌∷◌, ◌++◌, Option, sym, subst}
+use Rattle.std.proofs.Common.{ℕ, List, [], ◌∷◌, ◌++◌, Option, sym, subst}
 use Rattle.t7_base.specs.Outside.{Begins, Grew}
 use Rattle.t7_base.proofs.Grown.{grew_as}
 use Rattle.t7_outcome.specs.Outcome.{text_of}

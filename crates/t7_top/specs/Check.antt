@@ -1,5 +1,5 @@
 -- `check`: a line for each template of a layout table, and their number.
-use Rattle.std.specs.Prelude.{ℕ, List, [], ◌∷◌, ◌++◌, Some, Ok, codes, length, map}
+use Rattle.std.specs.Prelude.{ℕ, List, [], ◌++◌, Some, Ok, codes, length, map}
 use Rattle.std.specs.Fmt.{decimal}
 use Rattle.t7_layout.specs.Faults.{fault_of}
 use Rattle.t7_layout.specs.Layouts.{Layout}

@@ -1,6 +1,7 @@
 pub mod Check
 pub mod Meaning
 pub mod Replay
+pub mod Report
 pub mod Script
 pub mod Text
 pub mod Words

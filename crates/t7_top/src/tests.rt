@@ -10,6 +10,13 @@ use t7_outcome::Status;
 const PRODUCT: &[u8] =
     b"product,7\nwindow,4\npackets,8\ndatagram,1472\nsecurity,1001,1\nsecurity,1002,1\nsession,21\nsession,22\n";
 
+/// A buy of 50 at 100, a buy of 5 at 101 (upper case), and a report.
+const TWO_BUYS: &[u8] =
+    b"IN 1 30000000680000000200000001000000e903000000000000090000000000000064000000000000003200000000000000
+IN 1 30000000680000000300000001000000E9030000000000000A0000000000000065000000000000000500000000000000
+SHOW
+";
+
 /// What a run is given: its words, the three files, and the calls of the files and of the sink that fail.
 #[derive(Clone, Copy)]
 struct Case {
@@ -72,8 +79,13 @@ fn replay_plays_the_script_or_says_why_not(rt: HostRuntime) -> Result<(), Fail> 
         product: b"product,7\nwindow,4\npackets,8\ndatagram,1472\nsecurity,1001,1\nsecurity,1002,1\n",
         ..replay(b"SHOW\n")
     };
-    let cases: [(Case, &[u8], Status); 6] = [
+    let cases: [(Case, &[u8], Status); 7] = [
         (replay(b""), b"END 0\n", Status::Done),
+        (
+            replay(TWO_BUYS),
+            b"SYNC 2\n1001 B 101 5 2\n1001 B 100 50 1\nEND 2\n",
+            Status::Done,
+        ),
         (
             replay(b"SHOW\nSHOW"),
             b"SYNC 0\nSYNC 0\nEND 0\n",

@@ -1,8 +1,8 @@
-use Rattle.std.proofs.Common.{rules, ◌≡◌, Some, map, string_bytes, ap, ◌∙◌}
+use Rattle.std.proofs.Common.{rules, ◌≡◌, Some, map, string_bytes, ap}
 use Rattle.t7_outcome.specs.Ending.{status_of}
-use Rattle.t7_outcome.specs.Outcome.{Outcome, Given}
+use Rattle.t7_outcome.specs.Outcome.{Given}
 use Rattle.t7_outcome.proofs.Taking.{took_none}
-use Rattle.t7_top.specs.Words.{Command, Help, command_of, outcome_of}
+use Rattle.t7_top.specs.Words.{Help, command_of, outcome_of}
 use Rattle.t7_top.proofs.top.perform.Goals as goal
 
 pub returns-in-Some-Help-clause-took : goal.returns-in-Some-Help-clause-took
