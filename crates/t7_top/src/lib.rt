@@ -6,8 +6,6 @@ mod inputs;
 mod line;
 mod play;
 mod replay;
-#[cfg(test)]
-mod sample;
 mod script;
 mod show;
 #[cfg(test)]

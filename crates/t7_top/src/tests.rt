@@ -1,11 +1,11 @@
 //! The top call over objects in memory.
 
 use crate::run;
-use crate::sample::SAMPLE;
 use std::alloc::Global;
 use std::test::Fail;
 use t7_base::{MemoryFiles, MemorySink, Octets};
 use t7_outcome::Status;
+use t7_sample::SAMPLE;
 
 const PRODUCT: &[u8] =
     b"product,7\nwindow,4\npackets,8\ndatagram,1472\nsecurity,1001,1\nsecurity,1002,1\nsession,21\nsession,22\n";
@@ -31,7 +31,7 @@ struct Case {
 fn replay(script: &'static [u8]) -> Case {
     Case {
         words: "replay table product script",
-        table: SAMPLE,
+        table: SAMPLE.as_bytes(),
         product: PRODUCT,
         script,
         failing_takes: &[],

@@ -1,7 +1,7 @@
-//! The sample layout table, for the tests.
+//! The sample layout table, for the tests of the other crates.
 
-/// All 32 roles, each template's fields one behind another.
-pub const SAMPLE: &[u8] = b"family,id,template,field,offset,width,kind,null
+/// A table with all 32 roles and no other template, each template's fields one behind another: `samples/sample.csv`, byte for byte.
+pub const SAMPLE: &str = "family,id,template,field,offset,width,kind,null
 ETI,101,LogonRequest,BodyLen,0,4,U,
 ETI,101,LogonRequest,TemplateID,4,2,U,
 ETI,101,LogonRequest,Pad2,6,2,X,
