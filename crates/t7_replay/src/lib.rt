@@ -5,5 +5,7 @@ mod asked;
 mod bought;
 mod cast;
 mod floor;
+#[cfg(test)]
+mod tests;
 
 pub use floor::{Floor, Refusal};
