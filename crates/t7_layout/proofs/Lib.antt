@@ -6,6 +6,7 @@ pub mod LawFacts
 pub mod LookupFacts
 pub mod NameFacts
 pub mod NullFacts
+pub mod PairFacts
 pub mod RoleFacts
 pub mod RowFacts
 pub mod SpellingFacts

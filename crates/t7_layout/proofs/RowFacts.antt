@@ -1,5 +1,5 @@
 -- The rows of a template, one further row at a time.
-use Rattle.std.proofs.Common.{◌≡◌, ◌<◌, ◌≤◌, ◌+◌, ◌-◌, ◌||◌, ◌&&◌, ◌∙◌, ℕ, zero, suc, List, [], ◌∷◌, ◌++◌, Bool, true, false, length, take, drop, refl, ap, sym, arith, add-one, append_assoc, length-take, drop-cons, nat_lt}
+use Rattle.std.proofs.Common.{◌≡◌, ◌<◌, ◌≤◌, ◌+◌, ◌-◌, ◌||◌, ◌∙◌, ℕ, zero, suc, List, [], ◌∷◌, ◌++◌, Bool, true, false, length, take, drop, refl, ap, sym, arith, add-one, append_assoc, length-take, drop-cons, nat_lt}
 use Rattle.std.proofs.lemmas.Bool.Decides.{nat_tests}
 use Rattle.std.proofs.lemmas.List.{append-nil, drop_all, drop-append-le, get_or-take}
 use Rattle.std.specs.List.{list_any}
@@ -7,14 +7,6 @@ use Rattle.t7_records.specs.Records.{Record, record_at}
 use Rattle.std.proofs.Math.Seq.{take-suc}
 use Rattle.t7_layout.specs.Faults.{fails_overlap}
 use Rattle.t7_layout.specs.Rows.{begins, earlier_in, end_before, row_end, row_offset, row_width, so_far}
-
-pub and_differs : (a b : Bool) → b ≡ false → (a && b) ≡ false
-and_differs true b h = h
-and_differs false b h = refl
-
-pub and_same : (a b : Bool) → b ≡ true → (a && b) ≡ a
-and_same true b h = h
-and_same false b h = refl
 
 pub any_end : (p : Record → Bool) (xs : List Record) (x : Record) → list_any p (xs ++ x ∷ []) ≡ (list_any p xs || p x)
 any_end p [] x = by (p x)

@@ -3,6 +3,7 @@ pub mod FirstFault
 pub mod Inside
 pub mod Layouts
 pub mod Lookups
+pub mod Pairs
 pub mod Refusals
 pub mod Roles
 pub mod Rows

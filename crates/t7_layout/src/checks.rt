@@ -1,16 +1,19 @@
 // The tests of a layout table's rows.
 
-ghost use Rattle.std.specs.Prelude.{◌≡◌, ◌≤◌, ◌<◌, ◌+◌, ◌^◌, ◌&&◌, length, take, drop, ℕ, false};
+ghost use Rattle.std.specs.Prelude.{◌≡◌, ◌≤◌, ◌<◌, ◌+◌, ◌^◌, ◌&&◌, IfOk, length, take, drop, ℕ, false};
 ghost use Rattle.std.specs.List.{list_all, list_any};
 ghost use Rattle.t7_records.specs.Records.{record_at};
 ghost use Rattle.std.specs.Str.{bytes_eq};
 ghost use Rattle.t7_layout.specs.Roles.{family_of, field_text, required};
+ghost use Rattle.t7_layout.specs.Pairs.{HoldsRows};
 ghost use Rattle.t7_layout.specs.Rows.{begins, earlier_in, is_field, is_of, same_cell, so_far};
 ghost use Rattle.t7_layout.specs.Faults.{begin_with, fault_at, fault_of, has_roles, least_fault, row_fault, fails_cell, fails_columns, fails_duplicate_id, fails_duplicate_name, fails_family, fails_header, fails_hole, fails_kind, fails_length, fails_null, fails_overlap, fails_role_field, fails_width, has_extreme_null, has_fields, is_length_or_id, is_required, is_width};
 
+use crate::pairs::Passed;
 use crate::roles::{FieldName, Role};
 use crate::rows::*;
 use crate::words::{Family, Kind, TableFault, TableWhy};
+use std::alloc::{AllocError, Global};
 use t7_records::{Records, is_decimal};
 
 #[tactic(auto, unfolding(crate::specs::Faults::fails_columns))]
@@ -119,32 +122,6 @@ pub(crate) fn fails_null(rows: &Records, at: usize) -> bool
             || (is_required(rows, at) && !has_extreme_null(rows, at)))
 }
 
-// Whether two rows are of one family and have another cell in common. The other cell, which seldom is, is compared first.
-#[tactic(auto, using(crate::proofs::RowFacts::and_differs, crate::proofs::RowFacts::and_same))]
-fn shares(rows: &Records, a: usize, b: usize, cell: usize) -> bool
-    requires a { a < length rows.now }
-    requires b { b < length rows.now }
-    ensures { result ≡ (same_cell 0 (record_at rows.now a) (record_at rows.now b) && same_cell cell (record_at rows.now a) (record_at rows.now b)) }
-{
-    if !same_cell(rows, a, b, cell) {
-        return false;
-    }
-    same_cell(rows, a, b, 0)
-}
-
-// Whether an earlier row is of the same family and has another cell in common.
-fn stands_earlier(rows: &Records, at: usize, cell: usize) -> bool
-    requires { at < length rows.now }
-    ensures { result ≡ list_any (λ earlier. same_cell 0 earlier (record_at rows.now at) && same_cell cell earlier (record_at rows.now at)) (take at rows.now) }
-{
-    for earlier in 0..at {
-        if shares(rows, earlier, at, cell) {
-            return true;
-        }
-    }
-    false
-}
-
 // Whether the field's name stands earlier in its template.
 fn repeats_field(rows: &Records, at: usize) -> bool
     requires first { 0 < at }
@@ -178,21 +155,23 @@ fn has_field(rows: &Records, at: usize, family: Family, name: FieldName) -> bool
 }
 
 #[tactic(auto, unfolding(crate::specs::Faults::fails_duplicate_id))]
-pub(crate) fn fails_duplicate_id(rows: &Records, at: usize) -> bool
+pub(crate) fn fails_duplicate_id<'a>(rows: &'a Records, passed: &Passed<'a>, at: usize) -> bool
     requires first { 0 < at }
     requires inside { at < length rows.now }
+    requires passed { HoldsRows (take at rows.now) passed.now }
     ensures { result ≡ fails_duplicate_id rows.now at }
 {
-    begins(rows, at) && stands_earlier(rows, at, 1)
+    begins(rows, at) && passed.has_id(rows, at)
 }
 
 #[tactic(auto, unfolding(crate::specs::Faults::fails_duplicate_name))]
-pub(crate) fn fails_duplicate_name(rows: &Records, at: usize) -> bool
+pub(crate) fn fails_duplicate_name<'a>(rows: &'a Records, passed: &Passed<'a>, at: usize) -> bool
     requires first { 0 < at }
     requires inside { at < length rows.now }
+    requires passed { HoldsRows (take at rows.now) passed.now }
     ensures { result ≡ fails_duplicate_name rows.now at }
 {
-    (begins(rows, at) && stands_earlier(rows, at, 2)) || repeats_field(rows, at)
+    (begins(rows, at) && passed.has_name(rows, at)) || repeats_field(rows, at)
 }
 
 #[tactic(auto, unfolding(crate::specs::Faults::fails_overlap))]
@@ -310,9 +289,10 @@ pub(crate) fn fails_header(rows: &Records, at: usize) -> bool
 
 // The first test that a row behind the heading fails.
 #[tactic(auto, unfolding(crate::specs::Faults::row_fault))]
-fn row_fault(rows: &Records, at: usize) -> Option<TableWhy>
+fn row_fault<'a>(rows: &'a Records, passed: &Passed<'a>, at: usize) -> Option<TableWhy>
     requires first { 0 < at }
     requires inside { at < length rows.now }
+    requires passed { HoldsRows (take at rows.now) passed.now }
     ensures { result ≡ row_fault rows.now at }
 {
     if fails_columns(rows, at) {
@@ -333,10 +313,10 @@ fn row_fault(rows: &Records, at: usize) -> Option<TableWhy>
     if fails_null(rows, at) {
         return Some(TableWhy::Null);
     }
-    if fails_duplicate_id(rows, at) {
+    if fails_duplicate_id(rows, passed, at) {
         return Some(TableWhy::DuplicateId);
     }
-    if fails_duplicate_name(rows, at) {
+    if fails_duplicate_name(rows, passed, at) {
         return Some(TableWhy::DuplicateName);
     }
     if fails_overlap(rows, at) {
@@ -359,8 +339,9 @@ fn row_fault(rows: &Records, at: usize) -> Option<TableWhy>
 
 // The first test that a row fails.
 #[tactic(auto, unfolding(crate::specs::Faults::fault_at))]
-fn fault_at(rows: &Records, at: usize) -> Option<TableWhy>
-    requires { at < length rows.now }
+fn fault_at<'a>(rows: &'a Records, passed: &Passed<'a>, at: usize) -> Option<TableWhy>
+    requires inside { at < length rows.now }
+    requires passed { HoldsRows (take at rows.now) passed.now }
     ensures { result ≡ fault_at rows.now at }
 {
     if at == 0 {
@@ -370,7 +351,7 @@ fn fault_at(rows: &Records, at: usize) -> Option<TableWhy>
             Some(TableWhy::Columns)
         }
     } else {
-        row_fault(rows, at)
+        row_fault(rows, passed, at)
     }
 }
 
@@ -394,44 +375,46 @@ fn has_roles(rows: &Records) -> bool
 }
 
 // The fault of the least row that has one.
-fn least_fault(rows: &Records) -> Option<TableFault>
+fn least_fault(alloc: Global, rows: &Records) -> Result<Option<TableFault>, AllocError>
     requires { length rows.now + 1 < 2 ^ 32 }
-    ensures { result ≡ least_fault (fault_at rows.now) 0 (length rows.now) }
+    ensures { IfOk result (λ fault. fault ≡ least_fault (fault_at rows.now) 0 (length rows.now)) }
 {
+    let mut passed = Passed::new(alloc);
     for at in 0..rows.len() {
-        match fault_at(rows, at) {
+        match fault_at(rows, &passed, at) {
             Some(why) => {
-                return Some(TableFault {
+                return Ok(Some(TableFault {
                     row: at as u32 + 1,
                     why,
-                });
+                }));
             }
             None => {}
         }
+        passed.pass(rows, at)?;
     }
-    None
+    Ok(None)
 }
 
 /// What is wrong with the records of a table.
 #[tactic(auto, unfolding(crate::specs::Faults::fault_of, crate::specs::Faults::looked_at))]
-pub(crate) fn fault_of(rows: &Records) -> Option<TableFault>
+pub(crate) fn fault_of(alloc: Global, rows: &Records) -> Result<Option<TableFault>, AllocError>
     requires { length rows.now + 1 < 2 ^ 32 }
-    ensures { result ≡ fault_of rows.now }
+    ensures { IfOk result (λ fault. fault ≡ fault_of rows.now) }
 {
     if rows.len() == 0 {
-        return Some(TableFault {
+        return Ok(Some(TableFault {
             row: 1,
             why: TableWhy::Columns,
-        });
+        }));
     }
-    if let Some(fault) = least_fault(rows) {
-        return Some(fault);
+    if let Some(fault) = least_fault(alloc, rows)? {
+        return Ok(Some(fault));
     }
     if has_roles(rows) {
-        return None;
+        return Ok(None);
     }
-    Some(TableFault {
+    Ok(Some(TableFault {
         row: rows.len() as u32 + 1,
         why: TableWhy::RoleMissing,
-    })
+    }))
 }

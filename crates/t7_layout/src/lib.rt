@@ -8,6 +8,7 @@ mod checks;
 mod fields;
 mod index;
 mod laws;
+mod pairs;
 mod roles;
 mod rows;
 mod table;

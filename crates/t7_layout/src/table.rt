@@ -104,7 +104,7 @@ impl Table {
         if rows.len() >= u32::MAX as usize {
             return Err(TableRefusal::Memory);
         }
-        match fault_of(&rows) {
+        match fault_of(alloc, &rows)? {
             Some(fault) => Err(TableRefusal::Fault(fault)),
             None => {
                 let templates = templates_of(alloc, &rows)?;
