@@ -1,7 +1,7 @@
 // A template laid over the bytes of a message.
 
 ghost use Rattle.std.specs.Prelude.{◌≡◌, ◌<◌, ◌^◌, IfSome, ◌≤◌, ◌+◌, IfOk, OnErr, Contains, List, Some, ℕ, length, take, drop, option_map, pos, slice_get};
-ghost use Rattle.byteorder.specs.Endian.{little_number};
+ghost use Rattle.byteorder.specs.Endian.{little_number, twos_complement};
 ghost use Rattle.t7_layout.specs.declared.words.Kind.TheVariants.{Unsigned, Signed, Raw};
 ghost use Rattle.t7_layout.specs.Layouts.{Layout, Place};
 ghost use Rattle.t7_fields.specs.Spelling.{Bytes, Fits, Number, Seen, Spells, Value, body_length, known_signed, known_unsigned, length_width, raw_at, signed_at, template_id, unsigned_at};
@@ -61,7 +61,23 @@ fn part(bytes: &[u8], start: usize, count: usize) -> &[u8]
     found
 }
 
-// The number of so many bytes, the lowest first.
+// The number of so many bytes, the lowest first. Those of 1, 2, 4 and 8 bytes, as every field has, are read at once.
+fn read_number(bytes: &[u8], width: usize) -> u64
+    requires low { 1 ≤ width }
+    requires high { width ≤ 8 }
+    requires room { width ≤ length bytes.now }
+    ensures { result ≡ little_number width bytes.now }
+{
+    match width {
+        1 => LittleEndian::read_uint(bytes, 1),
+        2 => LittleEndian::read_uint(bytes, 2),
+        4 => LittleEndian::read_uint(bytes, 4),
+        8 => LittleEndian::read_uint(bytes, 8),
+        _ => LittleEndian::read_uint(bytes, width),
+    }
+}
+
+// The same number, and how large it can be.
 fn number_of(bytes: &[u8], width: usize) -> u64
     requires low { 1 ≤ width }
     requires high { width ≤ 8 }
@@ -69,7 +85,23 @@ fn number_of(bytes: &[u8], width: usize) -> u64
     ensures value { result ≡ little_number width bytes.now }
     ensures small { result < 256 ^ width }
 {
-    LittleEndian::read_uint(bytes, width)
+    read_number(bytes, width)
+}
+
+// The signed number of so many bytes, the lowest first, in two's complement.
+fn signed_of(bytes: &[u8], width: usize) -> i64
+    requires low { 1 ≤ width }
+    requires high { width ≤ 8 }
+    requires room { width ≤ length bytes.now }
+    ensures { result ≡ twos_complement width (little_number width bytes.now) }
+{
+    match width {
+        1 => LittleEndian::read_int(bytes, 1),
+        2 => LittleEndian::read_int(bytes, 2),
+        4 => LittleEndian::read_int(bytes, 4),
+        8 => LittleEndian::read_int(bytes, 8),
+        _ => LittleEndian::read_int(bytes, width),
+    }
 }
 
 impl<'a> View<'a> {
@@ -101,7 +133,7 @@ impl<'a> View<'a> {
             return Err(Short);
         }
         let width = length_width(template.family());
-        if LittleEndian::read_uint(bytes, width) != bytes.len() as u64 {
+        if read_number(bytes, width) != bytes.len() as u64 {
             return Err(Short);
         }
         Ok(View { template, bytes })
@@ -156,7 +188,7 @@ impl<'a> View<'a> {
         ensures some { 1 ≤ f.width }
     {
         let bytes = self.bytes_of(f);
-        let value = LittleEndian::read_int(bytes, f.width());
+        let value = signed_of(bytes, f.width());
         if f.null() == Some(value as i128) {
             None
         } else {
