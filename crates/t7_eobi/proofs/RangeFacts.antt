@@ -1,5 +1,5 @@
 -- Facts about the ranges of fields.
-use Rattle.std.proofs.Common.{◌≡◌, leb, ◌<◌, ℕ, zero, suc, Bool, true, false, List, [], ◌∷◌, Option, Some, None, drop, refl, cond, arith, not, is_some, pos, nat_abs, ◌&&◌, ◌≤◌}
+use Rattle.std.proofs.Common.{◌≡◌, leb, ◌<◌, ◌+◌, ◌∙◌, add-one, ap, drop-cons, get_or, length, sym, ℕ, zero, suc, Bool, true, false, List, [], ◌∷◌, Option, Some, None, drop, refl, cond, arith, not, is_some, pos, nat_abs, ◌&&◌, ◌≤◌}
 use Rattle.std.specs.Prelude.{Contains, find, ℤ, negsuc, ◌≤ℤ◌, ◌^◌}
 use Rattle.std.proofs.lemmas.Bool.Decides.{nat_tests}
 use Rattle.std.specs.Int.Signed.{le_z, le_z_yes}
@@ -163,3 +163,17 @@ last_abs (pos n) e =
     let high : leb n 4_294_967_294 ≡ true = (both (leb 0 n) (leb n 4_294_967_294) e).1 in
     grind (arith, nat_tests)
 last_abs (negsuc n) e = cc e
+
+find_passes : {X : Type 0} (p : X → Bool) (x : X) (xs : List X) → p x ≡ false → find p (x ∷ xs) ≡ find p xs
+find_passes p x xs e = rw e refl
+
+find_goes : {X : Type 0} (p : X → Bool) (xs : List X) (i : ℕ) (d : X) → i < length xs → p (get_or xs i d) ≡ false → find p (drop i xs) ≡ find p (drop (i + 1) xs)
+find_goes p xs i d h e = ap (find p) (drop-cons xs i d h) ∙ find_passes p (get_or xs i d) (drop (suc i) xs) e ∙ ap (λ (n : ℕ). find p (drop n xs)) (sym (add-one i))
+
+-- a field that says a number of its range is passed over
+pub says_goes : (m : Message) (names : List FieldName) (i : ℕ) (d : FieldName) → i < length names → (is_some (said m (get_or names i d)) && fits (get_or names i d) (said m (get_or names i d))) ≡ true
+    → (first_unset m (drop i names) ≡ first_unset m (drop (i + 1) names)) × (first_out m (drop i names) ≡ first_out m (drop (i + 1) names))
+unfolding first_unset first_out
+says_goes m names i d h e =
+    let (set, fit) = both (is_some (said m (get_or names i d))) (fits (get_or names i d) (said m (get_or names i d))) e in
+    (find_goes (λ name. not (is_some (said m name))) names i d h (ap not set), find_goes (λ name. not (fits name (said m name))) names i d h (ap not fit))

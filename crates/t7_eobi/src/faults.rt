@@ -10,7 +10,7 @@ ghost use Rattle.t7_eobi.specs.Faults.{fault_from, fault_of, fields_fault, has_r
 ghost use Rattle.t7_eobi.specs.Ranges.{IsSound};
 
 use crate::messages::{in_channel, role_of, split};
-use crate::ranges::{counted, first_out};
+use crate::ranges::{counted, says_all};
 use crate::records::number;
 use t7_base::Channel;
 use t7_fields::Fields;
@@ -84,18 +84,18 @@ pub(crate) fn read<'a>(table: &'a Table, role: Role, message: &'a [u8]) -> Field
     }
 }
 
-// The first test that the fields of a message fail.
+// The first test that the fields of a message fail. Most messages fail none, which one look at each field shows.
 #[tactic(auto, unfolding(crate::specs::Faults::fields_fault), using(crate::proofs::RangeFacts::counted_required))]
 fn fields_fault(m: &Fields<'_>) -> Option<PacketWhy>
     ensures { result ≡ fields_fault m.now }
 {
+    if says_all(m, counted(m.role())) {
+        return None;
+    }
     if m.first_unset(counted(m.role())).is_some() {
         return Some(PacketWhy::Null);
     }
-    if first_out(m, counted(m.role())).is_some() {
-        return Some(PacketWhy::Value);
-    }
-    None
+    Some(PacketWhy::Value)
 }
 
 // Whether a header names a product.

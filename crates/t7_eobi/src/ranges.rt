@@ -1,8 +1,8 @@
 // Which numbers the fields of a message may have.
 
-ghost use Rattle.std.specs.Prelude.{◌≡◌, List, Option, Some, Contains, length, drop};
+ghost use Rattle.std.specs.Prelude.{◌≡◌, ◌&&◌, List, Contains, is_none, is_some, length, drop};
 ghost use Rattle.t7_layout.specs.Roles.{kind_of, required};
-ghost use Rattle.t7_fields.specs.Messages.{said};
+ghost use Rattle.t7_fields.specs.Messages.{first_unset, said};
 ghost use Rattle.t7_eobi.specs.Ranges.{IsSound, counted, first_out, fits, in_range, is_live, range_of};
 
 use t7_fields::Fields;
@@ -94,35 +94,35 @@ pub(crate) fn counted(role: Role) -> &'static [FieldName]
     after(role.required(), if is_live(role) { 2 } else { 3 })
 }
 
-// Whether what a message says in a field, if anything, is in its range.
+// Whether a message says a number of its range in a field.
 #[tactic(auto, unfolding(crate::specs::Ranges::fits), using(crate::proofs::RangeFacts::raw_any))]
-fn fits(m: &Fields<'_>, name: FieldName) -> bool
+fn says(m: &Fields<'_>, name: FieldName) -> bool
     requires there { Contains (required m.now.role) name }
-    ensures { result ≡ fits name (said m.now name) }
+    ensures { result ≡ (is_some (said m.now name) && fits name (said m.now name)) }
 {
     match name.kind() {
         Kind::Unsigned => match m.unsigned(name) {
             Some(number) => in_range(range_of(name), number as i128),
-            None => true,
+            None => false,
         },
         Kind::Signed => match m.signed(name) {
             Some(number) => in_range(range_of(name), number as i128),
-            None => true,
+            None => false,
         },
-        Kind::Raw => true,
+        Kind::Raw => m.is_set(name),
     }
 }
 
-/// The first of these fields whose number is out of its range.
-#[tactic(auto, unfolding(crate::specs::Ranges::first_out))]
-pub(crate) fn first_out(m: &Fields<'_>, names: &[FieldName]) -> Option<FieldName>
+/// Whether a message says a number of its range in each of these fields.
+#[tactic(auto, unfolding(crate::specs::Ranges::first_out, t7_fields::specs::Messages::first_unset))]
+pub(crate) fn says_all(m: &Fields<'_>, names: &[FieldName]) -> bool
     requires there { (name : FieldName) → Contains names.now name → Contains (required m.now.role) name }
-    ensures { result ≡ first_out m.now names.now }
+    ensures { result ≡ (is_none (first_unset m.now names.now) && is_none (first_out m.now names.now)) }
 {
     for &name in names {
-        if !fits(m, name) {
-            return Some(name);
+        if !says(m, name) {
+            return false;
         }
     }
-    None
+    true
 }

@@ -34,6 +34,15 @@ const OTHERS: [u8; 56] = [
     0x08, 0x00, 0x63, 0x00, 0x00, 0x00, 0x00, 0x00,
 ];
 
+// LIVE with 8 bytes more behind its order, which say nothing.
+const LONGER: [u8; 72] = [
+    0x10, 0x00, 0x01, 0x00, 0xff, 0xff, 0xff, 0xff, 0x01, 0x00, 0x00, 0x00, 0x07, 0x00, 0x00, 0x00,
+    0x38, 0x00, 0x03, 0x00, 0x01, 0x00, 0x00, 0x00, 0xe9, 0x03, 0x00, 0x00, 0x00, 0x00, 0x00, 0x00,
+    0x01, 0x00, 0x00, 0x00, 0x00, 0x00, 0x00, 0x00, 0x32, 0x00, 0x00, 0x00, 0x00, 0x00, 0x00, 0x00,
+    0x01, 0x00, 0x00, 0x00, 0x00, 0x00, 0x00, 0x00, 0x64, 0x00, 0x00, 0x00, 0x00, 0x00, 0x00, 0x00,
+    0xff, 0xff, 0xff, 0xff, 0xff, 0xff, 0xff, 0xff,
+];
+
 // The first fault of a datagram of segment 7.
 fn fault(table: &Table, channel: Channel, bytes: &[u8]) -> Option<(&'static str, usize)> {
     match Packet::read(table, 7, channel, bytes) {
@@ -108,6 +117,14 @@ fn a_datagram_is_cut_where_it_ends(rt: HostRuntime) -> Result<(), Fail> {
             "end {end}"
         );
     }
+    let two_bytes_behind = [
+        0x10, 0x00, 0x01, 0x00, 0xff, 0xff, 0xff, 0xff, 0x01, 0x00, 0x00, 0x00, 0x07, 0x00, 0x00,
+        0x00, 0x30, 0x00,
+    ];
+    assert_eq!(rt;
+        fault(&table, Channel::Live, &two_bytes_behind),
+        Some(("cut", 16))
+    );
     assert_eq!(rt; fault(&table, Channel::Live, &[0; 1472]), Some(("cut", 0)));
     assert_eq!(rt;
         fault(&table, Channel::Live, &[0; 1473]),
@@ -164,6 +181,37 @@ fn items_are_read_in_order(rt: HostRuntime) -> Result<(), Fail> {
         None,
     ];
     assert_eq!(rt; snaps(&table, &SNAP), Some(items));
+    Ok(())
+}
+
+#[test]
+fn an_other_message_follows_an_order(rt: HostRuntime) -> Result<(), Fail> {
+    let table = Table::read(rt.alloc(), SAMPLE.as_bytes())?;
+    let order = order().ok_or("order")?;
+    let mut bytes = [0; 80];
+    bytes[..64].copy_from_slice(&LIVE);
+    bytes[64..].copy_from_slice(&OTHERS[16..32]);
+    let add = Some(Live::Message(1, Public::Add { order }));
+    let other = Some(Live::Message(2, Public::Other));
+    assert_eq!(rt; lives(&table, &bytes), Some((1, 80, [add, other, None])));
+    Ok(())
+}
+
+#[test]
+fn a_further_field_of_the_table_changes_no_order(rt: HostRuntime) -> Result<(), Fail> {
+    let (front, back) = SAMPLE.split_once("EOBI,4,").ok_or("rows")?;
+    let rows = "EOBI,3,OrderAdd,RequestTime,48,8,U,18446744073709551615\nEOBI,4,";
+    let text = format!(in rt.alloc(); "{front}{rows}{back}")?;
+    let table = Table::read(rt.alloc(), text.as_bytes())?;
+    let order = order().ok_or("order")?;
+    let add = Public::Add { order };
+    let item = Some(Live::Message(1, add));
+    assert_eq!(rt; lives(&table, &LONGER), Some((1, 72, [item, None, None])));
+    assert_eq!(rt; fault(&table, Channel::Live, &LIVE), Some(("length", 16)));
+    let mut out = [0; 512];
+    let header = write_header(&table, 7, 1, &mut out);
+    let end = header + write_public(&table, 1, &add, &mut out[header..]);
+    assert_eq!(rt; &out[..end], LONGER.as_slice());
     Ok(())
 }
 
