@@ -1,0 +1,384 @@
+//! The proved reader and book beside plain Rust, on the same bytes in the same run: bench/run
+
+mod book;
+mod packet;
+mod table;
+
+use book::Book;
+use packet::{Live, Message, Order, Packet, Previous, Trade};
+use std::time::{Duration, Instant};
+use table::Table;
+
+unsafe extern "C" {
+    fn t7_bench_datagrams(
+        table: *const u8,
+        table_length: usize,
+        segment: u32,
+        datagrams: *const u8,
+        datagrams_length: usize,
+        size: usize,
+        walks: bool,
+        turns: u32,
+    ) -> u64;
+
+    fn t7_bench_book(
+        product: *const u8,
+        product_length: usize,
+        numbers: *const i64,
+        numbers_length: usize,
+    ) -> u64;
+}
+
+const SEGMENT: u32 = 7;
+const SECURITIES: [i64; 2] = [1001, 1002];
+const ADDS: usize = 8;
+const SIZE: usize = 16 + ADDS * 48;
+const DATAGRAMS: usize = 256;
+const TURNS: u32 = 400;
+const ORDERS: usize = 20_000;
+const CALLS: usize = 100_000;
+const NUMBERS: usize = 9;
+const RUNS: usize = 7;
+
+/// Numbers that are drawn one after another.
+struct Draw(u64);
+
+impl Draw {
+    fn below(&mut self, most: u64) -> u64 {
+        self.0 = self
+            .0
+            .wrapping_mul(6364136223846793005)
+            .wrapping_add(1442695040888963407);
+        (self.0 >> 33) % most
+    }
+}
+
+/// Datagrams of eight new orders each, by the sample table.
+fn datagrams() -> Vec<u8> {
+    let mut draw = Draw(1);
+    let mut bytes = Vec::new();
+    for packet in 0..DATAGRAMS {
+        bytes.extend([16, 0, 1, 0, 255, 255, 255, 255]);
+        bytes.extend((packet as u32 + 1).to_le_bytes());
+        bytes.extend(SEGMENT.to_le_bytes());
+        for add in 0..ADDS {
+            let number = (packet * ADDS + add + 1) as u32;
+            bytes.extend([48, 0, 3, 0]);
+            bytes.extend(number.to_le_bytes());
+            bytes.extend(SECURITIES[draw.below(2) as usize].to_le_bytes());
+            bytes.extend(u64::from(number).to_le_bytes());
+            bytes.extend((1 + draw.below(1000)).to_le_bytes());
+            bytes.extend([1 + draw.below(2) as u8, 0, 0, 0, 0, 0, 0, 0]);
+            bytes.extend((9000 + draw.below(2000)).to_le_bytes());
+        }
+    }
+    bytes
+}
+
+fn order_sum(order: &Order) -> u64 {
+    order
+        .stamp
+        .wrapping_add(order.qty as u64)
+        .wrapping_add(order.price.unsigned_abs())
+        .wrapping_add(order.security.unsigned_abs())
+}
+
+fn item_sum(item: &Live) -> u64 {
+    match item {
+        Live::Message(number, Message::Add(order)) => {
+            order_sum(order).wrapping_add(u64::from(*number))
+        }
+        Live::Message(number, _) => u64::from(*number),
+        Live::Beat(number) => u64::from(*number),
+    }
+}
+
+#[inline(never)]
+fn plain_turn(table: &Table, datagrams: &[u8], walks: bool) -> u64 {
+    let mut sum = 0u64;
+    for bytes in datagrams.chunks_exact(SIZE) {
+        let Ok(packet) = Packet::read(table, SEGMENT, bytes) else {
+            continue;
+        };
+        sum = sum.wrapping_add(if walks {
+            packet
+                .live()
+                .map(|item| item_sum(&item))
+                .fold(0, u64::wrapping_add)
+        } else {
+            u64::from(packet.number())
+        });
+    }
+    sum
+}
+
+fn plain_datagrams(text: &str, datagrams: &[u8], walks: bool, turns: u32) -> u64 {
+    let table = Table::read(text);
+    let mut sum = 0u64;
+    for turn in 0..turns {
+        let rest = &datagrams[turn as usize % 8 * SIZE..];
+        sum = sum.wrapping_add(plain_turn(&table, rest, walks));
+    }
+    sum
+}
+
+fn proved_datagrams(text: &str, datagrams: &[u8], walks: bool, turns: u32) -> u64 {
+    // Each pointer is that of a slice of the length beside it, which outlives the call.
+    unsafe {
+        t7_bench_datagrams(
+            text.as_ptr(),
+            text.len(),
+            SEGMENT,
+            datagrams.as_ptr(),
+            datagrams.len(),
+            SIZE,
+            walks,
+            turns,
+        )
+    }
+}
+
+fn row(kind: i64, order: &Order, previous: Previous) -> [i64; NUMBERS] {
+    [
+        kind,
+        order.security,
+        if order.buys { 1 } else { 2 },
+        order.stamp as i64,
+        order.price,
+        order.qty,
+        previous.stamp as i64,
+        previous.price,
+        previous.qty,
+    ]
+}
+
+const NONE: Previous = Previous {
+    stamp: 0,
+    price: 0,
+    qty: 0,
+};
+
+fn drawn(draw: &mut Draw, stamp: u64) -> Order {
+    let buys = draw.below(2) == 0;
+    Order {
+        security: SECURITIES[draw.below(2) as usize],
+        buys,
+        stamp,
+        price: (if buys { 9000 } else { 10_000 }) + draw.below(1000) as i64,
+        qty: 1000 + draw.below(1000) as i64,
+    }
+}
+
+/// Messages of nine numbers: so many new orders, and then in turn a deletion, a new order, a change and an execution in part.
+fn messages() -> Vec<i64> {
+    let mut draw = Draw(2);
+    let mut orders: Vec<Order> = (0..ORDERS)
+        .map(|k| drawn(&mut draw, k as u64 + 1))
+        .collect();
+    let mut rows: Vec<[i64; NUMBERS]> = orders.iter().map(|order| row(1, order, NONE)).collect();
+    let mut stamp = ORDERS as u64;
+    for call in 0..CALLS {
+        let at = draw.below(orders.len() as u64) as usize;
+        stamp += 1;
+        rows.push(match call % 4 {
+            0 => row(3, &orders.swap_remove(at), NONE),
+            1 => {
+                orders.push(drawn(&mut draw, stamp));
+                row(1, orders.last().unwrap(), NONE)
+            }
+            2 => {
+                let before = orders[at];
+                let price = before.price + draw.below(21) as i64 - 10;
+                orders[at] = Order {
+                    stamp,
+                    price,
+                    ..before
+                };
+                let previous = Previous {
+                    stamp: before.stamp,
+                    price: before.price,
+                    qty: before.qty,
+                };
+                row(2, &orders[at], previous)
+            }
+            _ => {
+                orders[at].qty -= 1;
+                row(
+                    4,
+                    &Order {
+                        qty: 1,
+                        ..orders[at]
+                    },
+                    NONE,
+                )
+            }
+        });
+    }
+    rows.concat()
+}
+
+fn message_of(row: &[i64]) -> Option<Message> {
+    let [
+        kind,
+        security,
+        side,
+        stamp,
+        price,
+        qty,
+        prev_stamp,
+        prev_price,
+        prev_qty,
+    ] = *row
+    else {
+        return None;
+    };
+    let order = Order {
+        security,
+        buys: side == 1,
+        stamp: stamp as u64,
+        price,
+        qty,
+    };
+    match kind {
+        1 => Some(Message::Add(order)),
+        2 => {
+            let previous = Previous {
+                stamp: prev_stamp as u64,
+                price: prev_price,
+                qty: prev_qty,
+            };
+            Some(Message::Modify(order, previous))
+        }
+        3 => Some(Message::Delete(order)),
+        4 => Some(Message::Partial(Trade {
+            security,
+            buys: order.buys,
+            stamp: order.stamp,
+            price,
+            last_qty: qty,
+            last_price: price,
+        })),
+        _ => None,
+    }
+}
+
+#[inline(never)]
+fn plain_book(numbers: &[i64]) -> u64 {
+    let mut book = Book::new(SECURITIES.to_vec());
+    let mut fitting = 0u64;
+    for row in numbers.chunks_exact(NUMBERS) {
+        if message_of(row).is_some_and(|message| book.apply(&message).is_ok()) {
+            fitting += 1;
+        }
+    }
+    let sum = book.walk().fold(0u64, |sum, (stamp, qty)| {
+        sum.wrapping_mul(31)
+            .wrapping_add(stamp)
+            .wrapping_add(qty as u64)
+    });
+    sum.wrapping_add(fitting)
+}
+
+fn proved_book(product: &str, numbers: &[i64]) -> u64 {
+    // Each pointer is that of a slice of the length beside it, which outlives the call.
+    unsafe {
+        t7_bench_book(
+            product.as_ptr(),
+            product.len(),
+            numbers.as_ptr(),
+            numbers.len(),
+        )
+    }
+}
+
+fn timed(work: impl FnOnce() -> u64) -> (Duration, u64) {
+    let start = Instant::now();
+    let sum = std::hint::black_box(work());
+    (start.elapsed(), sum)
+}
+
+/// The time of the whole work less that of its beginning, and what the whole work gave.
+fn beyond(whole: impl FnOnce() -> u64, beginning: impl FnOnce() -> u64) -> (Duration, u64) {
+    let (start, _) = timed(beginning);
+    let (time, sum) = timed(whole);
+    (time.saturating_sub(start), sum)
+}
+
+fn middle(mut times: Vec<Duration>) -> f64 {
+    times.sort();
+    times[times.len() / 2].as_secs_f64()
+}
+
+/// Runs both by turns, and prints the middle times for so many things of each.
+fn compare(
+    title: &str,
+    count: f64,
+    runs: usize,
+    proved: impl Fn() -> (Duration, u64),
+    plain: impl Fn() -> (Duration, u64),
+) {
+    let (mut proved_times, mut plain_times) = (Vec::new(), Vec::new());
+    for _ in 0..runs {
+        let (proved_time, proved_sum) = proved();
+        let (plain_time, plain_sum) = plain();
+        assert_eq!(proved_sum, plain_sum, "{title}: the sums differ");
+        assert_ne!(proved_sum, 0, "{title}: nothing was read");
+        proved_times.push(proved_time);
+        plain_times.push(plain_time);
+    }
+    let (proved, plain) = (middle(proved_times), middle(plain_times));
+    println!(
+        "{title}: proved {:.3} million a second ({:.1} ns each), plain Rust {:.3} ({:.1} ns each): {:.2} of its speed",
+        count / proved / 1e6,
+        proved / count * 1e9,
+        count / plain / 1e6,
+        plain / count * 1e9,
+        plain / proved
+    );
+}
+
+fn main() {
+    let [_, table, product] = &std::env::args().collect::<Vec<_>>()[..] else {
+        panic!("the words are a layout table and a product file");
+    };
+    let table = std::fs::read_to_string(table).unwrap();
+    let product = std::fs::read_to_string(product).unwrap();
+    let bytes = datagrams();
+    let read: usize = (0..TURNS as usize).map(|turn| DATAGRAMS - turn % 8).sum();
+    for (title, walks) in [
+        ("messages of datagrams read", false),
+        ("messages of datagrams read and walked", true),
+    ] {
+        compare(
+            title,
+            (read * ADDS) as f64,
+            RUNS,
+            || {
+                beyond(
+                    || proved_datagrams(&table, &bytes, walks, TURNS),
+                    || proved_datagrams(&table, &bytes, walks, 0),
+                )
+            },
+            || {
+                beyond(
+                    || plain_datagrams(&table, &bytes, walks, TURNS),
+                    || plain_datagrams(&table, &bytes, walks, 0),
+                )
+            },
+        );
+    }
+    let numbers = messages();
+    let before = &numbers[..ORDERS * NUMBERS];
+    compare(
+        "messages on a book of 20,000 orders",
+        CALLS as f64,
+        3,
+        || {
+            beyond(
+                || proved_book(&product, &numbers),
+                || proved_book(&product, before),
+            )
+        },
+        || beyond(|| plain_book(&numbers), || plain_book(before)),
+    );
+}
