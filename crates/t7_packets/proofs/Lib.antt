@@ -1,0 +1,2 @@
+pub mod ActFacts
+pub mod PackFacts
