@@ -13,3 +13,6 @@ pub use laws::messages_fit;
 pub use market::MarketBook;
 pub use misfit::Misfit;
 pub use orders::MarketWalk;
+
+#[cfg(test)]
+mod tests;
