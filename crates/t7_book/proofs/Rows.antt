@@ -148,7 +148,7 @@ leaves_in_turn_gives = refl
 none_is_known : refusal (book_left (empty_book (roster_of day)) leaves_in_turn) (command.Delete 0 21 1 12) ≡ Some UnknownOrder
 none_is_known = refl
 
--- an order of which 20 were executed: its total falls, may not fall to 20, and rises with another price; another session's moment is ahead
+-- an order of which 20 were executed: its total falls, may not fall to 20, and rises with another price; the sell is of another session, at a moment ahead
 abbrev in_part : List Command
 in_part = new Buy 100 50 ∷ command.New 7 22 (pos 1001) Sell (pos 100) 20 9 ∷ modify 1 100 40 ∷ modify 1 101 60 ∷ []
 
