@@ -20,6 +20,4 @@ pub use walks::{Live, LiveWalk, Snap, SnapWalk};
 pub use write::{write_beat, write_header, write_public, write_snap};
 
 #[cfg(test)]
-mod sample;
-#[cfg(test)]
 mod tests;

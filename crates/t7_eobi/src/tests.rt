@@ -3,10 +3,10 @@
 ghost use Rattle.std.specs.Prelude.{◌≡◌, IfSome, pos};
 
 use super::*;
-use crate::sample::SAMPLE;
 use std::test::Fail;
 use t7_base::{Channel, Price, Public, Qty, Resting, SecurityId, Side, Stamp};
 use t7_layout::Table;
+use t7_sample::SAMPLE;
 
 // Datagram 1 of segment 7: message 1, a buy of 50 of security 1001 at 100 with stamp 1.
 const LIVE: [u8; 64] = [

@@ -2,17 +2,15 @@
 
 ghost use Rattle.std.specs.Prelude.{◌≤◌, length};
 
-mod sample;
-
 use crate::{
     FieldFault, Kept, Reason, Request, Response, read_number, read_request, read_response,
     write_request, write_response,
 };
-use sample::SAMPLE;
 use std::test::Fail;
 use t7_base::{OrderId, Price, Qty, SecurityId, Side, Stamp};
 use t7_fields::View;
 use t7_layout::{FieldName, Role, Table};
+use t7_sample::SAMPLE;
 
 // Messages, and the requests that they are read as.
 const REQUESTS: [(Role, &[u8], Result<Request, FieldFault>); 12] = [
@@ -308,7 +306,7 @@ fn write_accepted(table: &Table, stamp: Stamp, out: &mut [u8]) -> usize
 
 #[test]
 fn requests_are_read(rt: HostRuntime) -> Result<(), Fail> {
-    let table = Table::read(rt.alloc(), SAMPLE)?;
+    let table = Table::read(rt.alloc(), SAMPLE.as_bytes())?;
     for &(role, bytes, want) in &REQUESTS {
         assert_eq!(rt; request_said(&table, role, bytes), Some(want));
     }
@@ -320,7 +318,7 @@ fn requests_are_read(rt: HostRuntime) -> Result<(), Fail> {
 
 #[test]
 fn responses_are_read(rt: HostRuntime) -> Result<(), Fail> {
-    let table = Table::read(rt.alloc(), SAMPLE)?;
+    let table = Table::read(rt.alloc(), SAMPLE.as_bytes())?;
     let stamp = Stamp::new(1).ok_or("stamp")?;
     let last_qty = Qty::new(10).ok_or("quantity")?;
     let last_price = Price::new(-5).ok_or("price")?;
@@ -377,7 +375,7 @@ fn responses_are_read(rt: HostRuntime) -> Result<(), Fail> {
 
 #[test]
 fn messages_are_written(rt: HostRuntime) -> Result<(), Fail> {
-    let table = Table::read(rt.alloc(), SAMPLE)?;
+    let table = Table::read(rt.alloc(), SAMPLE.as_bytes())?;
     let stamp = Stamp::new(1).ok_or("stamp")?;
     let mut out = [7; 1024];
     let len = write_logon(&table, &mut out);

@@ -3,12 +3,10 @@
 ghost use Rattle.std.specs.Prelude.{◌≡◌, ◌≤◌, length};
 ghost use Rattle.t7_layout.specs.declared.roles.Role.TheVariants as role;
 
-mod sample;
-
 use crate::{Fields, Number, View, write};
-use sample::SAMPLE;
 use std::test::Fail;
 use t7_layout::{FieldName, Role, Table};
+use t7_sample::SAMPLE;
 
 // Writes the answer to logon 1, with a heartbeat interval of 30 seconds.
 #[tactic(auto, unfolding(t7_layout::specs::Roles::family_of, crate::specs::Writing::longest))]
@@ -36,7 +34,7 @@ fn numbers(message: &Fields<'_>) -> (Option<u64>, Option<u64>)
 
 #[test]
 fn a_logon_response_has_its_bytes_and_is_read_back(rt: HostRuntime) -> Result<(), Fail> {
-    let table = Table::read(rt.alloc(), SAMPLE)?;
+    let table = Table::read(rt.alloc(), SAMPLE.as_bytes())?;
     let template = table.role(Role::LogonResponse);
     let mut out = [7; 1024];
     assert_eq!(rt; write_logon_response(&table, &mut out), 16);

@@ -9,6 +9,4 @@ pub use laws::live_datagrams_carry_the_trace;
 pub use packing::{Packed, pack, pack_beat};
 
 #[cfg(test)]
-mod sample;
-#[cfg(test)]
 mod tests;

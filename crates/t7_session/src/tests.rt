@@ -1,16 +1,14 @@
 // Whole streams, in whatever pieces they come, against what the manuals say of their frames.
 
-mod sample;
-
 ghost use Rattle.std.specs.Prelude.{◌≤◌};
 
 use crate::{Beat, Session, Step, heartbeat_interval};
-use sample::SAMPLE;
 use std::alloc::{AllocError, Global};
 use std::test::Fail;
 use t7_base::{Moment, SessionId};
 use t7_eti::{Reason, Request};
 use t7_layout::Table;
+use t7_sample::SAMPLE;
 
 // A LogonRequest numbered 1 of session 21 with an interval of 30 seconds.
 const LOGON: [u8; 24] = [
@@ -136,7 +134,7 @@ const fn refused(seq: Option<u32>, reason: Reason) -> Step {
 #[test]
 fn each_frame_has_its_step_in_any_cutting(rt: HostRuntime) -> Result<(), Fail> {
     let alloc = rt.alloc();
-    let table = Table::read(alloc, SAMPLE)?;
+    let table = Table::read(alloc, SAMPLE.as_bytes())?;
     let cases: [(&[&[u8]], usize, &[u8], &[Step]); 20] = [
         (&[&LOGON, &ORDER], 0, &[], &[LOGS_ON, ORDERS]),
         (&[&LOGON, &ORDER, &[0; 8]], 24, &[56], &[LOGS_ON, ORDERS]),
@@ -240,7 +238,7 @@ fn each_frame_has_its_step_in_any_cutting(rt: HostRuntime) -> Result<(), Fail> {
 #[test]
 fn a_long_stream_has_the_same_steps_in_thousands_of_cuttings(rt: HostRuntime) -> Result<(), Fail> {
     let alloc = rt.alloc();
-    let table = Table::read(alloc, SAMPLE)?;
+    let table = Table::read(alloc, SAMPLE.as_bytes())?;
     let mut stream = LOGON.to_vec(alloc)?;
     for seq in 2..12 {
         let order = stream_of(alloc, &[&ORDER, &HEARTBEAT], 8, &[seq])?;
