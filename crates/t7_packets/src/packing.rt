@@ -1,11 +1,12 @@
 // One live datagram: the longest run of messages that fits, or a heartbeat.
 
-ghost use Rattle.std.specs.Prelude.{◌≡◌, ◌≤◌, ◌<◌, ◌+◌, ◌++◌, length, take, drop};
+ghost use Rattle.std.specs.Prelude.{◌≡◌, ◌≤◌, ◌<◌, ◌+◌, ◌++◌, length, take, drop, sum_by};
 ghost use Rattle.std.specs.List.{All};
+ghost use Rattle.t7_layout.specs.declared.roles.Role.TheVariants as role;
 ghost use Rattle.t7_eobi.specs.Bytes.{IsSequence};
 ghost use Rattle.t7_eobi.specs.Said.{ReadsLive};
 ghost use Rattle.t7_greedy.specs.Cuts.{IsLongestRun};
-ghost use Rattle.t7_packets.specs.Packing.{IsWritable, datagram_bytes, message_size, of_beat, of_messages, room_in};
+ghost use Rattle.t7_packets.specs.Packing.{IsWritable, datagram_bytes, message_size, of_beat, of_messages, role_size, room_in};
 
 use crate::write::{size_of, write_behind, write_front};
 use t7_base::Public;
@@ -45,6 +46,7 @@ pub fn pack(
     ensures used { result.used ≤ length messages.now }
     ensures greedy { IsLongestRun (message_size table.now) (room_in table.now limit) messages.now (take result.used messages.now) (drop result.used messages.now) }
     ensures within { result.len ≤ limit }
+    ensures sizes { result.len ≡ role_size table.now role.PacketHeader + sum_by (message_size table.now) (take result.used messages.now) }
     ensures length { result.len ≡ length (datagram_bytes table.now segment (of_messages number first (take result.used messages.now))) }
     ensures bytes { out.new ≡ datagram_bytes table.now segment (of_messages number first (take result.used messages.now)) ++ drop result.len out.old }
     ensures reads { ReadsLive table.now segment number (of_messages number first (take result.used messages.now)).items (take result.len out.new) }
