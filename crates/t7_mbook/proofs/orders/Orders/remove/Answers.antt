@@ -1,5 +1,4 @@
-use Rattle.std.proofs.Common.{◌≡◌, ◌<◌, ◌≤◌, ℕ, List, length, Option, Some, None, not, rules, arith, subst, ap, sym, ◌∙◌}
-use Rattle.std.specs.Prelude.{IsSome}
+use Rattle.std.proofs.Common.{rules}
 use Rattle.std.proofs.lemmas.Fn.{filter_same}
 use Rattle.t7_mbook.proofs.Room.{removed_has_room}
 use Rattle.t7_mbook.proofs.orders.Orders.remove.Goals as goal
