@@ -1,17 +1,16 @@
 -- What each command does, from what its parts do.
-use Rattle.std.proofs.Common.{◌≡◌, ℕ, ◌+◌, ℤ, pos, Bool, false, List, [], ◌∷◌, ◌++◌, refl, Ok, Err, Some, None, length, sym, ap, ◌∙◌, append-nil}
+use Rattle.std.proofs.Common.{◌≡◌, ℕ, ◌+◌, ℤ, pos, false, List, [], ◌++◌, refl, Ok, length, sym, ap, ◌∙◌, append-nil}
 use Rattle.t7_base.specs.declared.ids.Side.{Side}
 use Rattle.t7_base.specs.declared.public.Public.{Public}
 use Rattle.t7_book.specs.declared.order.Order.{Order}
 use Rattle.t7_book.specs.declared.command.Command.TheVariants as command
 use Rattle.t7_book.specs.declared.command.Note.{Note}
-use Rattle.t7_book.specs.Orders.{BookState, without}
+use Rattle.t7_book.specs.Orders.{BookState}
 use Rattle.t7_book.specs.Trades.{trades, fills}
-use Rattle.t7_book.specs.Orders.{is_of, order_of}
+use Rattle.t7_book.specs.Orders.{is_of}
 use Rattle.t7_book.specs.Commands.{new_stamp, is_full}
 use Rattle.t7_book.specs.Steps.{Step, messages, list_after, arrival, deletions, Applies}
 use Rattle.std.specs.List.{filter}
-use Rattle.t7_base.specs.declared.public.Public.TheVariants.{Delete}
 use Rattle.t7_book.proofs.StepLemmas.{messages_deletions}
 
 module _ (book : BookState) (moment session : ℕ) (security : ℤ) (side : Side) (price : ℤ) (qty client : ℕ) where

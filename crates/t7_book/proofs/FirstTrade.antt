@@ -1,5 +1,5 @@
 -- An incoming order trades with the first order that it crosses, and then as what that leaves trades.
-use Rattle.std.proofs.Common.{◌≡◌, ◌≢◌, ℕ, zero, suc, ◌-◌, ◌≤◌, ◌<◌, min, Bool, true, false, not, cond, List, [], ◌∷◌, Option, Some, None, refl, ap, sym, ◌∙◌, inl, inr, arith}
+use Rattle.std.proofs.Common.{◌≡◌, ◌≢◌, ℕ, zero, suc, ◌-◌, ◌≤◌, min, Bool, true, List, [], ◌∷◌, Some, None, refl, ap, sym, ◌∙◌, inl, inr, arith}
 use Rattle.std.specs.List.{filter, find}
 use Rattle.std.proofs.lemmas.Bool.{cases_Bool, leb-false}
 use Rattle.t7_base.specs.declared.public.Resting.{Resting}
@@ -8,7 +8,7 @@ use Rattle.t7_book.specs.declared.trade.Trade.{Trade}
 use Rattle.t7_book.specs.Orders.{same_name, without}
 use Rattle.t7_book.specs.Trades.{taken, trades, crosses, is_used_up, after_trade}
 use Rattle.t7_book.proofs.TradeLemmas.{taken-zero, same_name_refl}
-use Rattle.t7_book.specs.Laws.{Each, Distinct, first_crossing, trade_with, lowered, TradesInTurn, AllTradeInTurn}
+use Rattle.t7_book.specs.Laws.{Each, Distinct, first_crossing, trade_with, lowered, AllTradeInTurn}
 use Rattle.t7_book.proofs.Lists.{other_name}
 
 module _ (p : Order → Bool) where

@@ -1,12 +1,12 @@
 -- Facts about each order of a list, orders whose stamps differ, and what stays in a list when it is edited.
-use Rattle.std.proofs.Common.{◌≡◌, ◌≢◌, ◌⊎◌, ℕ, ◌+◌, ◌-◌, ◌<◌, ◌≤◌, ℤ, Bool, true, false, not, cond, ◌&&◌, List, [], ◌∷◌, length, map, Option, Some, None, refl, ap, sym, subst, ◌∙◌, inl, inr, arith}
+use Rattle.std.proofs.Common.{◌≡◌, ◌≢◌, ◌⊎◌, ℕ, ◌+◌, Bool, true, false, cond, ◌&&◌, List, [], ◌∷◌, length, Some, None, refl, ap, sym, subst, ◌∙◌, inl, inr, arith}
 use Rattle.std.specs.Prelude.{◌==◌}
 use Rattle.std.specs.List.{filter, find}
 use Rattle.std.specs.Ordering.{int_eq}
-use Rattle.std.proofs.lemmas.Bool.{and_parts, and_right, and_from, cases_Bool, ne_eqb, eqb-true, false≢true}
+use Rattle.std.proofs.lemmas.Bool.{and_parts, and_right, cases_Bool, ne_eqb, eqb-true}
 use Rattle.t7_base.specs.declared.public.Resting.{Resting}
 use Rattle.t7_book.specs.declared.order.Order.{Order}
-use Rattle.t7_book.specs.Orders.{placed, same_name, is_side, without, renewed, renewed_order}
+use Rattle.t7_book.specs.Orders.{placed, same_name, is_side, renewed, renewed_order}
 use Rattle.t7_book.specs.Laws.{Each, Distinct}
 use Rattle.t7_book.proofs.TradeLemmas.{same_name_refl}
 

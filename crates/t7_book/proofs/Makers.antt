@@ -1,14 +1,13 @@
 -- The resting orders that an incoming order trades with stand in the book until their trade.
-use Rattle.std.proofs.Common.{◌≡◌, ◌≢◌, ℕ, ◌+◌, ◌-◌, ◌<◌, ◌≤◌, min, zero, suc, ℤ, Bool, true, false, not, cond, List, [], ◌∷◌, length, refl, ap, sym, subst, ◌∙◌, inl, inr, arith}
+use Rattle.std.proofs.Common.{◌≡◌, ◌≢◌, ℕ, ◌-◌, ◌≤◌, zero, suc, Bool, true, false, not, cond, List, [], ◌∷◌, refl, ap, inl, inr, arith}
 use Rattle.std.specs.List.{filter}
-use Rattle.std.proofs.lemmas.Bool.{cases_Bool}
 use Rattle.t7_base.specs.declared.public.Resting.{Resting}
 use Rattle.t7_book.specs.declared.order.Order.{Order}
 use Rattle.t7_book.specs.declared.trade.Trade.{Trade}
 use Rattle.t7_book.specs.Orders.{same_name, without, with_left, renewed}
 use Rattle.t7_book.specs.Trades.{taken, trades, crosses, is_used_up, after_trade}
 use Rattle.t7_book.specs.Laws.{Each, Distinct}
-use Rattle.t7_book.proofs.Lists.{IsIn, each_at, each_weaker, each_filter, distinct_filter, in_filter, in_renewed, other_name}
+use Rattle.t7_book.proofs.Lists.{IsIn, each_weaker, each_filter, distinct_filter, in_filter, in_renewed, other_name}
 
 -- P holds of each trade
 abbrev pub EachTrade : (Trade → Type 0) → List Trade → Type 0

@@ -1,5 +1,5 @@
 -- The definitions on small books: for each command the messages, the notes, the answer and the book that it leaves.
-use Rattle.std.proofs.Common.{◌≡◌, ℕ, ℤ, pos, List, [], ◌∷◌, map, length, refl, Some, None}
+use Rattle.std.proofs.Common.{◌≡◌, ℕ, pos, List, [], ◌∷◌, refl, Some, None}
 use Rattle.t7_base.specs.Listing.{Listing}
 use Rattle.t7_base.specs.declared.ids.Side.{Side}
 use Rattle.t7_base.specs.declared.ids.Side.TheVariants.{Buy, Sell}
@@ -15,7 +15,7 @@ use Rattle.t7_book.specs.declared.command.BookRefusal.TheVariants.{UnknownOrder,
 use Rattle.t7_book.specs.Orders.{BookState, empty_book, roster_of, shown}
 use Rattle.t7_book.specs.Commands.{refusal}
 use Rattle.t7_book.specs.Steps.{messages, steps, notes_of, done_of, book_after}
-use Rattle.t7_book.specs.Trace.{trace, market, book_left}
+use Rattle.t7_book.specs.Trace.{market, book_left}
 
 abbrev day : Listing
 day = record {

@@ -1,7 +1,7 @@
 -- The steps of accepted commands lead from list to list, and each of the lists is fit.
-use Rattle.std.proofs.Common.{◌≡◌, ◌≢◌, ℕ, ◌+◌, ◌-◌, ◌<◌, ◌≤◌, zero, suc, ℤ, Bool, true, false, not, cond, List, [], ◌∷◌, ◌++◌, length, Option, Some, None, refl, ap, sym, subst, ◌∙◌, inl, inr, arith}
+use Rattle.std.proofs.Common.{◌≡◌, ◌≢◌, ℕ, ◌+◌, ◌-◌, ◌<◌, ◌≤◌, zero, suc, ℤ, true, false, not, cond, List, [], ◌∷◌, ◌++◌, length, Option, Some, None, refl, ap, sym, subst, inl, inr, arith}
 use Rattle.std.specs.Prelude.{nat_le}
-use Rattle.std.specs.List.{filter, find, Contains}
+use Rattle.std.specs.List.{filter, Contains}
 use Rattle.std.proofs.lemmas.Bool.{cases_Bool, leb-true, leb-false, or_parts}
 use Rattle.t7_book.specs.Orders.{Roster}
 use Rattle.t7_base.specs.declared.ids.Side.{Side}
@@ -9,22 +9,16 @@ use Rattle.t7_base.specs.declared.public.Public.{Public}
 use Rattle.t7_base.specs.declared.public.Public.TheVariants.{Add, Modify, SamePriority, Delete, MassDelete, Summary, Full, Partial}
 use Rattle.t7_book.specs.declared.order.Order.{Order}
 use Rattle.t7_book.specs.declared.trade.Trade.{Trade}
-use Rattle.t7_book.specs.declared.command.Command.{Command}
-use Rattle.t7_book.specs.declared.command.Command.TheVariants as command
-use Rattle.t7_book.specs.declared.command.BookRefusal.{BookRefusal}
 use Rattle.t7_book.specs.declared.command.BookRefusal.TheVariants.{BelowExecuted, BookFull}
-use Rattle.t7_book.specs.Orders.{BookState, same_name, without, with_left, with_order, renewed, order_of, is_order, is_in, is_of}
-use Rattle.t7_book.specs.Commands.{IsForProduct, new_stamp, new_order, keeps_priority, executed_of, with_total, changed_order, is_full, refusal, change_refusal}
-use Rattle.t7_book.specs.Trades.{trades, traded, is_used_up, after_trade, after_trades, execution}
-use Rattle.t7_book.specs.Steps.{Step, list_after, executions, remainder, summary, crossing, arrival, change, deletions, modification, cancellation, steps, stamp_after_change, last_stamp_after, book_after}
-use Rattle.t7_book.specs.Trace.{trace_from, book_left, list_at, AreAcceptedFrom}
+use Rattle.t7_book.specs.Orders.{same_name, without, with_left, with_order, renewed, order_of, is_order, is_in}
+use Rattle.t7_book.specs.Commands.{executed_of, with_total, changed_order, is_full, change_refusal}
+use Rattle.t7_book.specs.Trades.{traded, is_used_up, after_trade, after_trades, execution}
+use Rattle.t7_book.specs.Steps.{Step, list_after, executions, remainder, crossing, arrival, change, deletions, cancellation}
 use Rattle.t7_book.specs.Laws.{Each, Distinct, IsWhole}
-use Rattle.t7_book.proofs.ListLemmas.{length_filter_le}
-use Rattle.t7_book.proofs.TradeLemmas.{length_without}
 use Rattle.t7_book.proofs.StepLemmas.{list_after_executions, length_after_trades}
-use Rattle.t7_book.proofs.Lists.{IsIn, each_at, each_filter, distinct_filter, in_filter, found_in, other_name}
-use Rattle.t7_book.proofs.Fit.{Known, IsFit, fit_filter, fit_renewed, fit_placed, fit_later, whole_left, whole_total, whole_changed}
-use Rattle.t7_book.proofs.Makers.{AreMakers, makers_after, trades_makers, each_in}
+use Rattle.t7_book.proofs.Lists.{IsIn, each_at, in_filter, found_in, other_name}
+use Rattle.t7_book.proofs.Fit.{Known, IsFit, fit_filter, fit_renewed, fit_placed, fit_later, whole_left, whole_changed}
+use Rattle.t7_book.proofs.Makers.{AreMakers, makers_after}
 
 -- What a relation between a list, a message and the list after it owes: it holds of each kind of step.
 pub record Links (roster : Roster) (R : List Order → Public → List Order → Type 0) : Type 0 where

@@ -1,5 +1,5 @@
 -- The steps of a day's commands lead from list to list, and each of the lists is fit.
-use Rattle.std.proofs.Common.{◌≡◌, ℕ, ◌+◌, ◌-◌, ◌<◌, ◌≤◌, max, zero, suc, ℤ, pos, Bool, true, false, not, cond, List, [], ◌∷◌, ◌++◌, length, Option, Some, None, refl, ap, sym, subst, ◌∙◌, arith}
+use Rattle.std.proofs.Common.{◌≡◌, ℕ, ◌<◌, ◌≤◌, zero, suc, ℤ, pos, true, false, not, cond, List, [], ◌∷◌, Option, Some, None, refl, ap, arith}
 use Rattle.std.specs.List.{filter}
 use Rattle.t7_base.specs.Listing.{Listing}
 use Rattle.t7_base.specs.declared.public.Public.{Public}
@@ -10,12 +10,12 @@ use Rattle.t7_book.specs.declared.command.Command.TheVariants as command
 use Rattle.t7_book.specs.Orders.{Roster, roster_of, BookState, empty_book, same_name, without, renewed, order_of, is_order, is_in, is_of}
 use Rattle.t7_book.specs.Commands.{IsForProduct, new_stamp, new_order, keeps_priority, with_total, changed_order, refusal, change_refusal}
 use Rattle.t7_book.specs.Trades.{trades}
-use Rattle.t7_book.specs.Steps.{Step, change, modification, steps, stamp_after_change, last_stamp_after, book_after, list_after}
+use Rattle.t7_book.specs.Steps.{Step, change, modification, steps, stamp_after_change, last_stamp_after, book_after}
 use Rattle.t7_book.specs.Trace.{trace, trace_from, book_left, list_at, market, AreAcceptedFrom, AreAccepted}
-use Rattle.t7_book.specs.Laws.{Each, IsWhole, IsBook, MarketsAreBooks}
+use Rattle.t7_book.specs.Laws.{IsWhole, MarketsAreBooks}
 use Rattle.t7_book.proofs.TradeLemmas.{length_without}
 use Rattle.t7_book.proofs.Lists.{IsIn, each_at, each_weaker, each_filter, distinct_filter, found_in}
-use Rattle.t7_book.proofs.Fit.{Known, IsFit, fit_filter, fit_renewed, fit_later, whole_total}
+use Rattle.t7_book.proofs.Fit.{Known, IsFit, fit_filter, fit_renewed, whole_total}
 use Rattle.t7_book.proofs.Makers.{trades_makers, each_in}
 use Rattle.t7_book.proofs.Running.{Links, Run, run_append, run_change, run_arrival, run_cancellation, run_deletions, gone_from, room_from, above_from}
 

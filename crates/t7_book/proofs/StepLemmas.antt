@@ -1,5 +1,5 @@
 -- Lemmas on the pairs of a command.
-use Rattle.std.proofs.Common.{◌≡◌, ℕ, zero, suc, ◌-◌, ℤ, Bool, true, false, not, cond, List, [], ◌∷◌, ◌++◌, length, map, refl, ap, sym, ◌∙◌, arith, ◌≤◌, append-nil}
+use Rattle.std.proofs.Common.{◌≡◌, ℕ, zero, suc, ◌-◌, ℤ, true, false, not, cond, List, [], ◌∷◌, ◌++◌, length, map, refl, ap, sym, ◌∙◌, arith, ◌≤◌, append-nil}
 use Rattle.t7_base.specs.declared.public.Public.{Public}
 use Rattle.t7_book.specs.declared.order.Order.{Order}
 use Rattle.t7_book.specs.declared.trade.Trade.{Trade}

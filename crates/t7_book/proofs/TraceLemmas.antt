@@ -4,7 +4,7 @@ use Rattle.t7_book.specs.declared.order.Order.{Order}
 use Rattle.t7_book.specs.declared.command.Command.{Command}
 use Rattle.t7_book.specs.Orders.{BookState, empty_book, roster_of}
 use Rattle.t7_book.specs.Steps.{Step, steps, book_after}
-use Rattle.t7_book.specs.Trace.{trace, trace_from, book_left, list_at, market}
+use Rattle.t7_book.specs.Trace.{trace, trace_from, book_left, list_at}
 use Rattle.t7_book.specs.Laws.{TracesGrow}
 
 -- the trace of two lists of commands

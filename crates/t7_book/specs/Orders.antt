@@ -1,5 +1,5 @@
 -- Price-time priority, and the book as one plain list of orders.
-use Rattle.std.specs.Prelude.{ℕ, ◌+◌, ◌-◌, Bool, true, false, not, ◌&&◌, ◌==◌, nat_lt, if◌then◌else◌, ℤ, pos, ◌-ℤ◌, int_lt, List, [], ◌∷◌, map, Option}
+use Rattle.std.specs.Prelude.{ℕ, ◌+◌, Bool, true, false, not, ◌&&◌, ◌==◌, nat_lt, if◌then◌else◌, ℤ, pos, ◌-ℤ◌, int_lt, List, [], ◌∷◌, map, Option}
 use Rattle.std.specs.List.{filter, find}
 use Rattle.std.specs.Ordering.{int_eq}
 use Rattle.t7_base.specs.Listing.{Listing}

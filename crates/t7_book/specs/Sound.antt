@@ -1,5 +1,5 @@
 -- What the numbers of a book keep.
-use Rattle.std.specs.Prelude.{ℕ, ◌+◌, ◌^◌, ◌<◌, ◌≤◌}
+use Rattle.std.specs.Prelude.{◌+◌, ◌^◌, ◌<◌, ◌≤◌}
 use Rattle.t7_book.specs.Orders.{BookState}
 
 -- numbers that leave room for the next ones

@@ -1,5 +1,5 @@
 -- Crossing, and what an incoming order trades.
-use Rattle.std.specs.Prelude.{ℕ, ◌+◌, ◌-◌, min, Bool, true, false, ◌&&◌, nat_le, if◌then◌else◌, ℤ, pos, ◌-ℤ◌, int_le, List, [], ◌∷◌, zero, suc}
+use Rattle.std.specs.Prelude.{ℕ, ◌+◌, ◌-◌, min, Bool, false, ◌&&◌, nat_le, if◌then◌else◌, ℤ, pos, ◌-ℤ◌, int_le, List, [], ◌∷◌, zero, suc}
 use Rattle.std.specs.List.{filter}
 use Rattle.std.specs.Ordering.{int_eq}
 use Rattle.t7_base.specs.declared.ids.Side.{Side}

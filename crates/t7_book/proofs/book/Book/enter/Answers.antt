@@ -1,5 +1,4 @@
-use Rattle.std.proofs.Common.{arith, rules, ap, sym, subst, ◌∙◌, ◌≡◌, ◌+◌, false}
-use Rattle.std.proofs.lemmas.Grind.{common_steps}
+use Rattle.std.proofs.Common.{sym, subst, ◌∙◌, ◌≡◌, false}
 use Rattle.t7_book.specs.Orders.{BookState}
 use Rattle.t7_book.specs.Commands.{new_stamp, is_full}
 use Rattle.t7_book.proofs.ApplyLemmas.{entered}

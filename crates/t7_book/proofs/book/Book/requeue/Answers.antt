@@ -1,7 +1,5 @@
-use Rattle.std.proofs.Common.{arith, ◌≡◌, Some, subst, sym, ◌∙◌}
-use Rattle.std.proofs.lemmas.Grind.{common_steps}
+use Rattle.std.proofs.Common.{arith, ◌≡◌, Some, subst, sym}
 use Rattle.t7_book.specs.Orders.{BookState, order_of, is_order}
-use Rattle.t7_book.specs.Commands.{new_stamp}
 use Rattle.t7_book.proofs.TradeLemmas.{length_without}
 use Rattle.t7_book.proofs.book.Book.requeue.Goals as goal
 

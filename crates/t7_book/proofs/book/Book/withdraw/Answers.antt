@@ -1,4 +1,4 @@
-use Rattle.std.proofs.Common.{arith, rules, ap, sym, subst, ◌∙◌, ◌≡◌, ◌+◌, length, []}
+use Rattle.std.proofs.Common.{arith, ap, ◌≡◌, length, []}
 use Rattle.std.proofs.lemmas.Grind.{common_steps}
 use Rattle.t7_book.specs.Orders.{BookState}
 use Rattle.t7_book.proofs.ApplyLemmas.{withdrew}
