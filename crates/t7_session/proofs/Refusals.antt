@@ -1,5 +1,5 @@
 -- What the tests on a frame's form make of it.
-use Rattle.std.proofs.Common.{◌≡◌, ◌<◌, ◌≤◌, ◌==◌, ℕ, Bool, true, false, List, Option, Some, None, Result, Ok, Err, length, cond, not, nat_eq, nat_lt, inl, inr, refl, sym, ap, ◌∙◌, subst, arith, pos, nat_abs}
+use Rattle.std.proofs.Common.{◌≡◌, ◌<◌, ℕ, Bool, true, false, List, Some, None, Result, Err, length, nat_lt, inl, inr, refl, sym, ap, ◌∙◌, arith, pos, nat_abs}
 use Rattle.std.specs.Ordering.{int_eq}
 use Rattle.std.proofs.lemmas.Bool.Decides.{Decides-int_eq}
 use Rattle.std.proofs.lemmas.Bool.{cases_lt, lt-ltb, le-ltb}
@@ -17,7 +17,6 @@ use Rattle.t7_eti.specs.declared.reason.Reason.TheVariants.{BadLength}
 use Rattle.t7_eti.specs.declared.request.Request.{Request}
 use Rattle.t7_eti.specs.Nulls.{counts_as_null, is_missing}
 use Rattle.t7_eti.specs.Requests.{request_in, request_of}
-use Rattle.t7_session.specs.declared.checks.Refusal.{Refusal}
 use Rattle.t7_session.specs.Asked.{asked_as, number_said, or_null, unnumbered}
 
 -- what a message says in MsgSeqNum, and the number that its Reject carries

@@ -34,6 +34,80 @@ const ORDERS: Step = Step::Ask(Request::New {
     client: 9,
 });
 
+// A frame of a request that has a number: its header, what comes behind the number, and the request, numbered 0.
+struct Numbered {
+    header: &'static [u8],
+    body: &'static [u8],
+    request: Request,
+}
+
+const BUYS: Request = Request::New {
+    seq: 0,
+    security: 1001,
+    side: 1,
+    price: 100,
+    qty: 50,
+    client: 9,
+};
+
+// Frames of the requests of a session that is logged on, the last with eight bytes behind its template's.
+static MIXED: [Numbered; 6] = [
+    Numbered {
+        header: b"0\0\0\0h\0\0\0",
+        body: b"\x01\0\0\0\xe9\x03\0\0\0\0\0\0\x09\0\0\0\0\0\0\0d\0\0\0\0\0\0\02\0\0\0\0\0\0\0",
+        request: BUYS,
+    },
+    Numbered {
+        header: b"0\0\0\0i\0\0\0",
+        body: b"\0\0\0\0\x07\0\0\0\0\0\0\0\x0a\0\0\0\0\0\0\0\x06\xff\xff\xff\xff\xff\xff\xff\x3c\0\0\0\0\0\0\0",
+        request: Request::Modify {
+            seq: 0,
+            order: 7,
+            client: 10,
+            price: -250,
+            qty: 60,
+        },
+    },
+    Numbered {
+        header: b"\x20\0\0\0j\0\0\0",
+        body: b"\0\0\0\0\x07\0\0\0\0\0\0\0\x0b\0\0\0\0\0\0\0",
+        request: Request::Delete {
+            seq: 0,
+            order: 7,
+            client: 11,
+        },
+    },
+    Numbered {
+        header: b"\x18\0\0\0k\0\0\0",
+        body: b"\0\0\0\0\xe9\x03\0\0\0\0\0\0",
+        request: Request::DeleteAll {
+            seq: 0,
+            security: 1001,
+        },
+    },
+    Numbered {
+        header: b"0\0\0\0l\0\0\0",
+        body: b"\0\0\0\0\0\0\0\0\0\0\0\0\0\0\0\0\0\0\x01\x02\xff\xff\xff\xff\xff\xff\xff\xff\xff\xff\xff\xff\xff\xff\xff\xff",
+        request: Request::Resend {
+            seq: 0,
+            after: 258,
+            upto: u128::MAX,
+        },
+    },
+    Numbered {
+        header: b"8\0\0\0h\0\0\0",
+        body: b"\x01\0\0\0\xe9\x03\0\0\0\0\0\0\x09\0\0\0\0\0\0\0d\0\0\0\0\0\0\02\0\0\0\0\0\0\0\0\0\0\0\0\0\0\0",
+        request: BUYS,
+    },
+];
+
+// A frame of 4,096 bytes, without its last 4,048.
+static LONGEST: Numbered = Numbered {
+    header: b"\0\x10\0\0h\0\0\0",
+    body: b"\x01\0\0\0\xe9\x03\0\0\0\0\0\0\x09\0\0\0\0\0\0\0d\0\0\0\0\0\0\02\0\0\0\0\0\0\0",
+    request: BUYS,
+};
+
 const LOGS_OUT: Step = Step::Ask(Request::Logout { seq: 2 });
 
 const BEATS: Step = Step::Ask(Request::Heartbeat);
@@ -77,32 +151,44 @@ fn treat(
     Ok(true)
 }
 
-// The steps of a stream whose first piece has so many bytes, and whose others have from 1 to `most`, by the seed.
+// How a stream is cut: its first piece has so many bytes, and each other one from 1 to `most`, as the seed draws them.
+#[derive(Clone, Copy, Debug)]
+struct Cutting {
+    first: usize,
+    most: u64,
+    seed: u64,
+}
+
+const BYTE_BY_BYTE: Cutting = Cutting {
+    first: 0,
+    most: 1,
+    seed: 0,
+};
+
+// The steps of a stream that comes in the pieces of a cutting. Where a piece isn't taken whole, its rest comes with the next.
 fn steps_of(
     alloc: Global,
     table: &Table,
     stream: &[u8],
-    first: usize,
-    mut seed: u64,
-    most: u64,
+    cutting: Cutting,
 ) -> Result<Vec<Step>, Fail>
-    requires { 1 ≤ most }
+    requires { 1 ≤ cutting.most }
 {
     let mut session = Session::new(alloc)?;
     let mut steps = Vec::new(alloc);
     let now = Moment::new(1).ok_or("moment")?;
-    let (piece, mut left) = stream.split_at(first.min(stream.len()));
-    session.feed(piece, now);
-    let mut open = treat(table, &mut session, now, &mut steps)?;
-    for _ in 0..stream.len() {
-        if !open || left.is_empty() {
+    let mut seed = cutting.seed;
+    let mut count = cutting.first;
+    let mut left = stream;
+    for _ in 0..=stream.len() {
+        let (piece, _) = left.split_at(left.len().min(count));
+        let (_, rest) = left.split_at(session.feed(piece, now));
+        left = rest;
+        if !treat(table, &mut session, now, &mut steps)? || left.is_empty() {
             return Ok(steps);
         }
         seed = seed.wrapping_mul(6_364_136_223_846_793_005).wrapping_add(1);
-        let (piece, rest) = left.split_at(left.len().min(1 + ((seed >> 33) % most) as usize));
-        left = rest;
-        session.feed(piece, now);
-        open = treat(table, &mut session, now, &mut steps)?;
+        count = 1 + ((seed >> 33) % cutting.most) as usize;
     }
     Ok(steps)
 }
@@ -226,29 +312,131 @@ fn each_frame_has_its_step_in_any_cutting(rt: HostRuntime) -> Result<(), Fail> {
         let (frames, at, patch, want) = *case;
         let stream = stream_of(alloc, frames, at, patch)?;
         for first in 0..stream.len() {
-            let steps = steps_of(alloc, &table, &stream, first, 1, u64::MAX)?;
-            assert_eq!(rt; steps.as_slice(), want, "cut at {first}");
+            let cutting = Cutting {
+                first,
+                most: u64::MAX,
+                seed: 1,
+            };
+            let steps = steps_of(alloc, &table, &stream, cutting)?;
+            assert_eq!(rt; steps.as_slice(), want, "{cutting:?}");
         }
-        let steps = steps_of(alloc, &table, &stream, 0, 0, 1)?;
+        let steps = steps_of(alloc, &table, &stream, BYTE_BY_BYTE)?;
         assert_eq!(rt; steps.as_slice(), want, "byte by byte");
     }
     Ok(())
 }
 
+// The request under another number.
+fn under_number(request: Request, seq: u32) -> Request {
+    match request {
+        Request::New {
+            security,
+            side,
+            price,
+            qty,
+            client,
+            ..
+        } => Request::New {
+            seq,
+            security,
+            side,
+            price,
+            qty,
+            client,
+        },
+        Request::Modify {
+            order,
+            client,
+            price,
+            qty,
+            ..
+        } => Request::Modify {
+            seq,
+            order,
+            client,
+            price,
+            qty,
+        },
+        Request::Delete { order, client, .. } => Request::Delete { seq, order, client },
+        Request::DeleteAll { security, .. } => Request::DeleteAll { seq, security },
+        Request::Resend { after, upto, .. } => Request::Resend { seq, after, upto },
+        other => other,
+    }
+}
+
+// A stream, and the steps of its frames.
+#[derive(Drop)]
+struct Stream {
+    bytes: Vec<u8>,
+    steps: Vec<Step>,
+}
+
+impl Stream {
+    // Adds a frame.
+    fn add(&mut self, frame: &[u8], step: Step) -> Result<(), AllocError> {
+        self.bytes.extend_from_slice(frame)?;
+        self.steps.push(step)?;
+        Ok(())
+    }
+
+    // Adds a frame of the request with this number, which stands behind the header.
+    fn add_numbered(&mut self, frame: &Numbered, seq: u32) -> Result<(), AllocError> {
+        self.bytes.extend_from_slice(frame.header)?;
+        self.bytes.extend_from_slice(&seq.to_le_bytes())?;
+        self.add(frame.body, Step::Ask(under_number(frame.request, seq)))
+    }
+
+    // Adds a frame of each mixed kind, numbered from this number on, and a heartbeat.
+    fn add_round(&mut self, first: u32) -> Result<(), AllocError>
+        requires { first ≤ 1_000 }
+    {
+        for (i, frame) in MIXED.iter().enumerate() {
+            self.add_numbered(frame, first + i as u32)?;
+        }
+        self.add(&HEARTBEAT, BEATS)
+    }
+}
+
+// A logon, sixteen rounds of mixed frames, one of 4,096 bytes, and a logout whose number isn't the next one, so that what
+// comes behind it is not looked at.
+fn long_stream(alloc: Global) -> Result<Stream, AllocError> {
+    let mut stream = Stream {
+        bytes: Vec::new(alloc),
+        steps: Vec::new(alloc),
+    };
+    stream.add(&LOGON, LOGS_ON)?;
+    for round in 0..16 {
+        stream.add_round(2 + 6 * round)?;
+    }
+    stream.add_numbered(&LONGEST, 98)?;
+    stream.bytes.extend_from_slice(&[0; 4048])?;
+    stream.add(
+        b"\x10\0\0\0f\0\0\0\x62\0\0\0\0\0\0\0",
+        refused(Some(98), Reason::SeqNum),
+    )?;
+    stream.bytes.extend_from_slice(&[7, 0, 0, 0])?;
+    Ok(stream)
+}
+
 #[test]
-fn a_long_stream_has_the_same_steps_in_thousands_of_cuttings(rt: HostRuntime) -> Result<(), Fail> {
+fn a_long_stream_has_its_steps_in_ten_thousand_cuttings(rt: HostRuntime) -> Result<(), Fail> {
     let alloc = rt.alloc();
     let table = Table::read(alloc, SAMPLE.as_bytes())?;
-    let mut stream = LOGON.to_vec(alloc)?;
-    for seq in 2..12 {
-        let order = stream_of(alloc, &[&ORDER, &HEARTBEAT], 8, &[seq])?;
-        stream.extend_from_slice(&order)?;
-    }
-    let whole = steps_of(alloc, &table, &stream, stream.len(), 0, 1)?;
-    assert_eq!(rt; whole.len(), 21);
-    for seed in 0..2000 {
-        let steps = steps_of(alloc, &table, &stream, 0, seed, 1 + seed % 300)?;
-        assert_eq!(rt; steps.as_slice(), whole.as_slice(), "cutting {seed}");
+    let stream = long_stream(alloc)?;
+    let at_once = Cutting {
+        first: stream.bytes.len(),
+        ..BYTE_BY_BYTE
+    };
+    let steps = steps_of(alloc, &table, &stream.bytes, at_once)?;
+    assert_eq!(rt; steps.as_slice(), stream.steps.as_slice(), "at once");
+    for seed in 0..10_000 {
+        let cutting = Cutting {
+            first: 0,
+            most: 1 + seed % 1000,
+            seed,
+        };
+        let steps = steps_of(alloc, &table, &stream.bytes, cutting)?;
+        assert_eq!(rt; steps.as_slice(), stream.steps.as_slice(), "{cutting:?}");
     }
     Ok(())
 }

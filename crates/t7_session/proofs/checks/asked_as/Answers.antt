@@ -1,4 +1,4 @@
-use Rattle.std.proofs.Common.{◌≡◌, ℕ, Option, Result, Ok, Err, sym, ap, ◌∙◌}
+use Rattle.std.proofs.Common.{ℕ, Option, Result, Ok, Err, sym, ap, ◌∙◌}
 use Rattle.t7_eti.specs.declared.reason.Reason.TheVariants.{NullField}
 use Rattle.t7_eti.specs.declared.request.Request.{Request}
 use Rattle.t7_session.specs.declared.checks.Refusal.{Refusal}

@@ -1,4 +1,4 @@
-use Rattle.std.proofs.Common.{◌≡◌, ◌<◌, ◌^◌, sym, arith}
+use Rattle.std.proofs.Common.{◌<◌, ◌^◌, sym, arith}
 use Rattle.t7_layout.specs.declared.roles.FieldName.TheVariants.{MsgSeqNum}
 use Rattle.t7_layout.specs.Roles.{family_of, required}
 use Rattle.t7_fields.proofs.NameFacts.{among_contains}

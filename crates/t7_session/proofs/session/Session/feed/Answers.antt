@@ -1,7 +1,4 @@
-use Rattle.std.proofs.Common.{◌≡◌, ◌++◌, take, sym, subst}
-use Rattle.t7_frames.specs.Frames.{front_of, IsWhole}
 use Rattle.t7_frames.proofs.Fronts.{whole-stays}
-use Rattle.t7_session.specs.Inside.{IsSession}
 use Rattle.t7_session.proofs.session.Session.feed.Goals as goal
 use Rattle.t7_session.proofs.session.Session.feed.Goals.{then-not-is_empty, else-not-is_empty}
 

@@ -1,4 +1,4 @@
-use Rattle.std.proofs.Common.{◌≡◌, sym}
+use Rattle.std.proofs.Common.{sym}
 use Rattle.t7_frames.proofs.Fronts.{whole-front}
 use Rattle.t7_session.proofs.session.Session.step.Goals as goal
 
