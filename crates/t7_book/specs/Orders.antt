@@ -112,6 +112,6 @@ order_of orders session id = find (is_order session id) orders
 abbrev pub is_in : ℤ → Order → Bool
 is_in security y = int_eq y.rest.security security
 
--- the order is of this session, in this security
+-- an order of that session in that security
 abbrev pub is_of : ℕ → ℤ → Order → Bool
 is_of session security y = (y.owner == session) && is_in security y
