@@ -1,6 +1,6 @@
 // Datagrams of the sample table, read and written.
 
-ghost use Rattle.std.specs.Prelude.{◌≡◌, IfSome, pos};
+ghost use Rattle.std.specs.Prelude.{◌≡◌, ◌<◌, IfSome, pos};
 
 use super::*;
 use std::test::Fail;
@@ -128,6 +128,63 @@ fn a_datagram_is_cut_where_it_ends(rt: HostRuntime) -> Result<(), Fail> {
     assert_eq!(rt; fault(&table, Channel::Live, &[0; 1472]), Some(("cut", 0)));
     assert_eq!(rt;
         fault(&table, Channel::Live, &[0; 1473]),
+        Some(("too long", 1472))
+    );
+    Ok(())
+}
+
+// The place of the fault of LIVE with another byte.
+fn place_of_change(table: &Table, place: usize, byte: u8) -> Option<usize>
+    requires { place < 64 }
+{
+    let mut bytes = LIVE;
+    bytes[place] = byte;
+    let (_, found) = fault(table, Channel::Live, &bytes)?;
+    Some(found)
+}
+
+#[test]
+fn a_changed_byte_is_in_fault_at_its_message(rt: HostRuntime) -> Result<(), Fail> {
+    let table = Table::read(rt.alloc(), SAMPLE.as_bytes())?;
+    for place in 0..64 {
+        for byte in 0..=255 {
+            let message = if place < 16 { 0 } else { 16 };
+            // A header of another length puts the fault where the message behind it then begins.
+            let moved = place == 0 && (byte as usize) > 16;
+            match place_of_change(&table, place, byte) {
+                Some(found) if moved => assert!(rt; found == 0 || found == byte as usize),
+                Some(found) => assert_eq!(rt; found, message, "byte {place}"),
+                None => {}
+            }
+        }
+    }
+    Ok(())
+}
+
+#[test]
+fn a_snapshot_datagram_has_its_faults(rt: HostRuntime) -> Result<(), Fail> {
+    let table = Table::read(rt.alloc(), SAMPLE.as_bytes())?;
+    let cases = [
+        (0, 0x07, Some(("cut", 0))),
+        (2, 0x02, Some(("no header", 0))),
+        (12, 0x08, Some(("product", 0))),
+        (32, 0x10, Some(("length", 32))),
+        (80, 0xff, Some(("null", 56))),
+        (80, 0x02, None),
+        (80, 0x03, Some(("value", 56))),
+    ];
+    for (place, byte, expected) in cases {
+        let mut bytes = SNAP;
+        assert!(rt; place < 96);
+        bytes[place] = byte;
+        assert_eq!(rt;
+            fault(&table, Channel::Snap, &bytes),
+            expected,
+            "byte {place}"
+        );
+    }
+    assert_eq!(rt;
+        fault(&table, Channel::Snap, &[0; 1473]),
         Some(("too long", 1472))
     );
     Ok(())
