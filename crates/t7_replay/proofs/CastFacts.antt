@@ -35,7 +35,7 @@ written whole part header body rest more i k m whole_is at part_is count =
 
 -- a datagram that is read as one message begins with it
 pub first_read : (layouts : List Layout) (segment count number : ℕ) (message : Public) (bytes : List ℕ)
-    → ReadsLive layouts segment count (items.Message number message ∷ []) bytes → first_message layouts segment bytes ≡ Some message
+    → ReadsLive layouts segment count (items.Message number message ∷ []) bytes → first_message layouts segment bytes ≡ Some (record { number = number; message = message })
 unfolding first_message
 first_read layouts segment count number message bytes reads = rw (reads.faultless, reads.says) refl
 
@@ -47,7 +47,7 @@ ReadsAgain = (layouts : List Layout) (segment count : ℕ) (items : List Live) (
 -- a header and a message are read as that message
 pub one_message : ReadsAgain → (layouts : List Layout) (segment number : ℕ) (message : Public) (header body bytes : List ℕ)
     → SaysHeader layouts segment number header → SaysLive layouts (items.Message number message) body → bytes ≡ header ++ body
-    → first_message layouts segment bytes ≡ Some message
+    → first_message layouts segment bytes ≡ Some (record { number = number; message = message })
 one_message live_again layouts segment number message header body bytes says_header says_live is =
     let joined : concat (body ∷ []) ≡ body = append-nil body in
     let sizes : length (header ++ concat (body ∷ [])) ≤ 1472 = rw (joined, length-append header body) (omega (arith, says_header.short, says_live.short)) in

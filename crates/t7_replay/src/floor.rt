@@ -33,13 +33,15 @@ pub struct Floor<'a> {
     product: &'a Product,
     book: Book,
     member: MarketBook,
+    /// The number of the last message that the member got.
+    last: u32,
     accepted: Vec<Command>,
     messages: Vec<Public>,
     notes: Vec<Note>,
 }
 
 impl<'a> Model for Floor<'a> {
-    ghost use Rattle.std.specs.Prelude.{◌≡◌};
+    ghost use Rattle.std.specs.Prelude.{◌≡◌, length};
     ghost use Rattle.t7_base.specs.Listing.{IsListing};
     ghost use Rattle.t7_replay.specs.Floor.{IsTaken, Taken};
 
@@ -47,7 +49,7 @@ impl<'a> Model for Floor<'a> {
 
     ghost view = { λ a. record { layouts = a.table.now; listing = a.product.now; commands = a.accepted.items } };
 
-    ghost invariant = { λ a. IsTaken a.product.now a.accepted.items a.book a.member.orders × (a.member.securities ≡ a.product.now.securities) };
+    ghost invariant = { λ a. IsTaken a.product.now a.accepted.items a.book a.member.orders × (a.member.securities ≡ a.product.now.securities) × (a.last ≡ length a.accepted.items) };
 }
 
 impl<'a> Floor<'a> {
@@ -64,18 +66,19 @@ impl<'a> Floor<'a> {
             product,
             book: Book::new(alloc, product)?,
             member: MarketBook::new(alloc, product)?,
+            last: 0,
             accepted: Vec::new(alloc),
             messages: Vec::new(alloc),
             notes: Vec::new(alloc),
         })
     }
 
-    /// How many messages the exchange has sent, which is the number of the last.
+    /// The number of the last message that the member got, which is how many the exchange has sent.
     pub fn messages(&self) -> usize
         ensures value { result ≡ length self.now.commands }
         ensures few { result ≤ 10_000 }
     {
-        self.accepted.len()
+        self.last as usize
     }
 
     /// The orders that the member shows, in the order of the book: those of the exchange's book after the last message.
@@ -130,7 +133,8 @@ impl<'a> Floor<'a> {
             unreachable!()
         };
         let received = cast(self.table, segment, number, &sent);
-        match self.member.apply(&received) {
+        self.last = received.number;
+        match self.member.apply(&received.message) {
             Ok(()) => Ok(()),
             Err(_) => unreachable!(),
         }

@@ -12,8 +12,16 @@ unreachable-requires c =
     let wrong = sym c.in-None.is ∙ c.first_message.ensures ∙ found in
     cc
 
-pub returns : goal.returns
-returns c =
+pub returns-clause-number : goal.returns-clause-number
+returns-clause-number c =
+    let bytes = written c.write_header-header.new.out c.write_public-body.new.out (header_bytes c.args.table.now c.args.segment c.args.number) (public_bytes c.args.table.now c.args.number c.args.message.now) _ _
+    c.write_header-header.result c.write_public-body.result _ c.write_header-header.ensures.bytes c.write_header-header.ensures.length c.write_public-body.ensures.bytes c.write_public-body.ensures.length in
+    let found = one_message c.datagrams_read_again.ensures.live c.args.table.now c.args.segment c.args.number c.args.message.now _ _ _ c.write_header-header.ensures.says c.write_public-body.ensures.says bytes in
+    let same = sym c.in-Some.is ∙ c.first_message.ensures ∙ found in
+    cc
+
+pub returns-clause-message : goal.returns-clause-message
+returns-clause-message c =
     let bytes = written c.write_header-header.new.out c.write_public-body.new.out (header_bytes c.args.table.now c.args.segment c.args.number) (public_bytes c.args.table.now c.args.number c.args.message.now) _ _
     c.write_header-header.result c.write_public-body.result _ c.write_header-header.ensures.bytes c.write_header-header.ensures.length c.write_public-body.ensures.bytes c.write_public-body.ensures.length in
     let found = one_message c.datagrams_read_again.ensures.live c.args.table.now c.args.segment c.args.number c.args.message.now _ _ _ c.write_header-header.ensures.says c.write_public-body.ensures.says bytes in

@@ -60,9 +60,9 @@ unreachable-requires-in-Err-apply c =
     let given : c.apply.new.out.items ≡ public.Add entry.order ∷ [] = on_ok c.apply.result c.in-Ok.field-0 _ c.in-Ok.is c.apply.ensures.out ∙ ap (λ (ms : List Public). ms ++ messages (steps c.self.inside.book c.in-Some.command)) c.clear.ensures.items ∙ rest.message in
     let sent = sym c.in-Some-first_of.is ∙ c.first_of.ensures ∙ ap (λ (ms : List Public). slice_get ms 0) (c.deref.ensures.value ∙ given) in
     let is : c.in-Some-first_of.sent ≡ public.Add entry.order = cc in
-    let received : c.cast-received.result ≡ public.Add entry.order = c.cast-received.ensures ∙ is in
-    let fits : misfit_of c.self.inside.member.securities c.self.inside.member.orders c.cast-received.result ≡ None =
-    ap (λ (zs : List ℤ). misfit_of zs c.self.inside.member.orders c.cast-received.result) c.self.invariant.1
+    let received : c.cast-received.result.message ≡ public.Add entry.order = c.cast-received.ensures.message ∙ is in
+    let fits : misfit_of c.self.inside.member.securities c.self.inside.member.orders c.cast-received.result.message ≡ None =
+    ap (λ (zs : List ℤ). misfit_of zs c.self.inside.member.orders c.cast-received.result.message) c.self.invariant.1
     ∙ ap (λ (m : Public). misfit_of c.self.inside.product.now.securities c.self.inside.member.orders m) received ∙ rest.fits in
     fits_well _ c.apply-2.result fits c.apply-2.ensures.misfit c.in-Err-apply.field-0 c.in-Err-apply.is
 
@@ -75,12 +75,12 @@ invariant_of-self-2 c =
     let given : c.apply.new.out.items ≡ public.Add entry.order ∷ [] = on_ok c.apply.result c.in-Ok.field-0 _ c.in-Ok.is c.apply.ensures.out ∙ ap (λ (ms : List Public). ms ++ messages (steps c.self.inside.book c.in-Some.command)) c.clear.ensures.items ∙ rest.message in
     let sent = sym c.in-Some-first_of.is ∙ c.first_of.ensures ∙ ap (λ (ms : List Public). slice_get ms 0) (c.deref.ensures.value ∙ given) in
     let is : c.in-Some-first_of.sent ≡ public.Add entry.order = cc in
-    let received : c.cast-received.result ≡ public.Add entry.order = c.cast-received.ensures ∙ is in
+    let received : c.cast-received.result.message ≡ public.Add entry.order = c.cast-received.ensures.message ∙ is in
     let member = on_ok c.apply-2.result c.in-Ok-apply.field-0 _ c.in-Ok-apply.is c.apply-2.ensures.ok in
     let book = on_ok c.apply.result c.in-Ok.field-0 _ c.in-Ok.is c.apply.ensures.book in
     let orders : c.apply-2.new.self.orders ≡ after c.self.inside.product.now.securities c.self.inside.member.orders (public.Add entry.order) =
     ap (λ (m : MarketState). m.orders) member
-    ∙ ap (λ (zs : List ℤ). after zs c.self.inside.member.orders c.cast-received.result) c.self.invariant.1
+    ∙ ap (λ (zs : List ℤ). after zs c.self.inside.member.orders c.cast-received.result.message) c.self.invariant.1
     ∙ ap (λ (m : Public). after c.self.inside.product.now.securities c.self.inside.member.orders m) received in
     let commands = c.push_reserved.ensures.items ∙ ap (λ (cs : List Command). cs ++ c.in-Some.command ∷ []) c.reserve.ensures.items in
-    (taken_as rest.next commands book orders, ap (λ (m : MarketState). m.securities) member ∙ c.self.invariant.1)
+    (taken_as rest.next commands book orders, ap (λ (m : MarketState). m.securities) member ∙ c.self.invariant.1, search rules)
