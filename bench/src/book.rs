@@ -50,6 +50,15 @@ struct Kept {
     qty: i64,
 }
 
+impl Kept {
+    fn of(order: &Order) -> Kept {
+        Kept {
+            price: order.price,
+            qty: order.qty,
+        }
+    }
+}
+
 pub struct Book {
     securities: Vec<i64>,
     named: BTreeMap<Name, Kept>,
@@ -121,13 +130,7 @@ impl Book {
         if self.named.len() >= MOST_ORDERS {
             return Err(Misfit::Full);
         }
-        self.place(
-            name,
-            Kept {
-                price: order.price,
-                qty: order.qty,
-            },
-        );
+        self.place(name, Kept::of(order));
         Ok(())
     }
 
@@ -142,26 +145,14 @@ impl Book {
             return Err(Misfit::Present);
         }
         self.remove(before);
-        self.place(
-            name,
-            Kept {
-                price: order.price,
-                qty: order.qty,
-            },
-        );
+        self.place(name, Kept::of(order));
         Ok(())
     }
 
     fn same_priority(&mut self, order: &Order, previous: i64) -> Result<(), Misfit> {
         let name = self.name(order.security, order.buys, order.stamp)?;
         self.exact(name, order.price, previous)?;
-        self.named.insert(
-            name,
-            Kept {
-                price: order.price,
-                qty: order.qty,
-            },
-        );
+        self.named.insert(name, Kept::of(order));
         Ok(())
     }
 

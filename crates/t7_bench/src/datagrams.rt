@@ -66,7 +66,7 @@ fn turn_sum(table: &Table, segment: u32, datagrams: &[u8], size: usize, walks: b
 }
 
 // The bytes from a place on.
-fn from(bytes: &[u8], place: usize) -> &[u8] {
+fn behind(bytes: &[u8], place: usize) -> &[u8] {
     if place > bytes.len() {
         return &[];
     }
@@ -95,7 +95,7 @@ pub extern "C" fn t7_bench_datagrams(
     let mut sum = 0u64;
     for turn in 0..turns {
         let place = turn as usize % 8 * size;
-        let rest = from(datagrams, place);
+        let rest = behind(datagrams, place);
         sum = sum.wrapping_add(turn_sum(&table, segment, rest, size, walks));
     }
     sum

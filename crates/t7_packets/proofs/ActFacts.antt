@@ -9,7 +9,7 @@ use Rattle.t7_book.specs.Steps.{Step, book_after, messages, steps}
 use Rattle.t7_book.specs.Trace.{trace_from}
 use Rattle.t7_greedy.specs.Cuts.{cut, joined}
 use Rattle.t7_greedy.proofs.CutFacts.{cut_whole}
-use Rattle.t7_packets.specs.Acts.{Act, AreNumbered, accepts, beats, carried, commands_of, live_from, messages_among, shipped, snaps}
+use Rattle.t7_packets.specs.Acts.{Act, AreNumbered, Accepts, Beats, carried, commands_of, live_from, messages_among, shipped, Snaps}
 use Rattle.t7_packets.specs.Packing.{Datagram, message_size, numbered, of_beat, room_in}
 
 -- datagrams that are numbered, and others that go on with the next number
@@ -61,20 +61,20 @@ module _ (layouts : List Layout) (limit : ℕ) where
   -- live datagrams are numbered
   pub live_numbered : (book : BookState) (number first : ℕ) (acts : List Act) → AreNumbered number (live_from layouts limit book number first acts)
   live_numbered book number first [] = tt
-  live_numbered book number first (accepts command ∷ acts) =
+  live_numbered book number first (Accepts command ∷ acts) =
       let told = messages (steps book command) in
       let runs = runs_of told in
       numbered_append number (shipped number first runs) (live_from layouts limit (book_after book command) (number + length runs) (first + length told) acts)
       (shipped_numbered number first runs)
       (subst (λ n. AreNumbered (number + n) (live_from layouts limit (book_after book command) (number + length runs) (first + length told) acts)) (sym (shipped_count number first runs))
       (live_numbered (book_after book command) (number + length runs) (first + length told) acts))
-  live_numbered book number first (beats ∷ acts) = (refl, live_numbered book (number + 1) first acts)
-  live_numbered book number first (snaps ∷ acts) = live_numbered book number first acts
+  live_numbered book number first (Beats ∷ acts) = (refl, live_numbered book (number + 1) first acts)
+  live_numbered book number first (Snaps ∷ acts) = live_numbered book number first acts
 
   -- they carry the messages of the trace
   pub live_carried : (book : BookState) (number first : ℕ) (acts : List Act) → carried (live_from layouts limit book number first acts) ≡ numbered first (messages (trace_from book (commands_of acts)))
   live_carried book number first [] = refl
-  live_carried book number first (accepts command ∷ acts) =
+  live_carried book number first (Accepts command ∷ acts) =
       let told = messages (steps book command) in
       let runs = runs_of told in
       let rest = live_from layouts limit (book_after book command) (number + length runs) (first + length told) acts in
@@ -85,20 +85,20 @@ module _ (layouts : List Layout) (limit : ℕ) where
       ∙ ap (λ is. numbered first told ++ is) (live_carried (book_after book command) (number + length runs) (first + length told) acts)
       ∙ sym (numbered_both first told later)
       ∙ ap (λ ms. numbered first ms) (sym (map-append (λ (s : Step). s.0) (steps book command) (trace_from (book_after book command) (commands_of acts))))
-  live_carried book number first (beats ∷ acts) = live_carried book (number + 1) first acts
-  live_carried book number first (snaps ∷ acts) = live_carried book number first acts
+  live_carried book number first (Beats ∷ acts) = live_carried book (number + 1) first acts
+  live_carried book number first (Snaps ∷ acts) = live_carried book number first acts
 
   -- acts that follow change none of them
   pub live_kept : (book : BookState) (number first : ℕ) (acts more : List Act)
       → ((rest : List Datagram) × (live_from layouts limit book number first (acts ++ more) ≡ live_from layouts limit book number first acts ++ rest))
   live_kept book number first [] more = (live_from layouts limit book number first more, refl)
-  live_kept book number first (accepts command ∷ acts) more =
+  live_kept book number first (Accepts command ∷ acts) more =
       let told = messages (steps book command) in
       let runs = runs_of told in
       let later = live_kept (book_after book command) (number + length runs) (first + length told) acts more in
       let rest = live_from layouts limit (book_after book command) (number + length runs) (first + length told) acts in
       (later.0, ap (λ ds. shipped number first runs ++ ds) later.1 ∙ sym (append_assoc (shipped number first runs) rest later.0))
-  live_kept book number first (beats ∷ acts) more =
+  live_kept book number first (Beats ∷ acts) more =
       let later = live_kept book (number + 1) first acts more in
       (later.0, ap (λ ds. of_beat number (first - 1) ∷ ds) later.1)
-  live_kept book number first (snaps ∷ acts) more = live_kept book number first acts more
+  live_kept book number first (Snaps ∷ acts) more = live_kept book number first acts more
