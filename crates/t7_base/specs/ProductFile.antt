@@ -18,9 +18,11 @@ pub record ProductFault : Type 0 where
 unfoldable pub is_of : List ℕ → Record → Bool
 is_of word row = bytes_eq (cell row 0) word
 
+-- a record of a security
 unfoldable pub is_security : Record → Bool
 is_security row = is_of (codes "security") row
 
+-- a record of a session
 unfoldable pub is_session : Record → Bool
 is_session row = is_of (codes "session") row
 
@@ -35,6 +37,7 @@ pub record Range : Type 0 where
   pub least : ℕ
   pub most : ℕ
 
+-- the range of each of the first four records
 unfoldable pub fixed_range : ℕ → Range
 fixed_range at =
     if at == 0 then record { least = 1; most = 2_147_483_647 }
@@ -42,19 +45,23 @@ fixed_range at =
     else if at == 2 then record { least = 1; most = 4_096 }
     else record { least = 256; most = 1_472 }
 
+-- the range of a SecurityID
 unfoldable pub security_range : Range
 security_range = record { least = 1; most = 1_000_000_000_000_000_000 }
 
+-- the range of a price step
 unfoldable pub tick_range : Range
 tick_range = record { least = 1; most = 100_000_000_000_000_000 }
 
+-- the range of a SessionID
 unfoldable pub session_range : Range
 session_range = record { least = 1; most = 4_000_000_000 }
 
--- a cell is a plain decimal within a range, and its number (0 for any other cell)
+-- a cell is a plain decimal within a range
 unfoldable pub is_within : Range → List ℕ → Bool
 is_within range word = is_decimal_to range.most word && nat_le range.least (number_to range.most word)
 
+-- the number of a cell within a range, and 0 for any other cell
 unfoldable pub number_in : Range → List ℕ → ℕ
 number_in range word = number_to range.most word
 
@@ -62,22 +69,27 @@ number_in range word = number_to range.most word
 unfoldable pub listed_before : List Record → ℕ → List Record
 listed_before rows at = drop 4 (take at rows)
 
--- the securities, their price steps and the sessions of records, in order
+-- the security of a record
 unfoldable pub security_of : Record → ℤ
 security_of row = pos (number_in security_range (cell row 1))
 
+-- the price step of a record
 unfoldable pub tick_of : Record → ℤ
 tick_of row = pos (number_in tick_range (cell row 2))
 
+-- the session of a record
 unfoldable pub session_of : Record → ℕ
 session_of row = number_in session_range (cell row 1)
 
+-- the securities of records, in order
 unfoldable pub securities_in : List Record → List ℤ
 securities_in rows = map security_of (filter is_security rows)
 
+-- the price steps of records, in order
 unfoldable pub ticks_in : List Record → List ℤ
 ticks_in rows = map tick_of (filter is_security rows)
 
+-- the sessions of records, in order
 unfoldable pub sessions_in : List Record → List ℕ
 sessions_in rows = map session_of (filter is_session rows)
 
@@ -93,11 +105,13 @@ fails_key rows at =
     else if is_session row then (length (securities_in (listed_before rows at)) == 0) || nat_le 64 (length (sessions_in (listed_before rows at)))
     else true
 
+-- the record has another number of cells than its word wants
 unfoldable pub fails_columns : List Record → ℕ → Bool
 fails_columns rows at =
     let row = record_at rows at in
     not (length row == (if nat_lt at 4 then 2 else if is_security row then 3 else 2))
 
+-- a number of the record isn't plain, or is out of its range
 unfoldable pub fails_number : List Record → ℕ → Bool
 fails_number rows at =
     let row = record_at rows at in

@@ -5,6 +5,7 @@ use Rattle.std.specs.List.{IsDistinct}
 use Rattle.t7_records.specs.Records.{Record}
 use Rattle.t7_base.specs.ProductFile.{listed_before, securities_in, sessions_in, ticks_in}
 
+-- the securities, their price steps and the sessions that were read so far
 pub record Lists : Type 0 where
   pub securities : List ℤ
   pub ticks : List ℤ
