@@ -11,3 +11,6 @@ pub mod Makers
 pub mod Fit
 pub mod Running
 pub mod RunningDay
+pub mod Few
+pub mod Abouts
+pub mod Lefts

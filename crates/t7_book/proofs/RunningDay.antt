@@ -68,7 +68,7 @@ module _ (R : List Order → Public → List Order → Type 0) where
       ]
 
   -- the steps of a command
-  run_steps : (book : BookState) → Links book.roster R → (c : Command) → BookFits book → IsForProduct book.roster c → refusal book c ≡ None
+  pub run_steps : (book : BookState) → Links book.roster R → (c : Command) → BookFits book → IsForProduct book.roster c → refusal book c ≡ None
       → Run book.roster R (last_stamp_after book c) book.orders (steps book c)
   run_steps book links (command.New moment session security side price qty client) fit product accepted =
       let x = new_order book moment session security side price qty in
@@ -109,10 +109,10 @@ module _ (R : List Order → Public → List Order → Type 0) where
     fit_at orders (s ∷ ss) (suc n) run = fit_at s.1 ss n run.2
 
 -- the relation that always holds
-abbrev Any : List Order → Public → List Order → Type 0
+abbrev pub Any : List Order → Public → List Order → Type 0
 Any before message after = Unit {0}
 
-any_links : (roster : Roster) → Links roster Any
+pub any_links : (roster : Roster) → Links roster Any
 any_links roster = record {
   add = λ last orders fit x above listed room. tt;
   summary = λ last orders fit security side stamp qty price listed. tt;

@@ -1,8 +1,10 @@
 pub mod Orders
 pub mod Commands
+pub mod Acts
 pub mod Trades
 pub mod Steps
 pub mod Trace
 pub mod Laws
 pub mod Sound
 pub mod Walk
+pub mod About

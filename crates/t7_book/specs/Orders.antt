@@ -61,6 +61,7 @@ pub record Roster : Type 0 where
   pub securities : List ℤ
   pub sessions : List ℕ
 
+-- the securities and sessions of a product
 abbrev pub roster_of : Listing → Roster
 roster_of listing = record { securities = listing.securities; sessions = listing.sessions }
 

@@ -3,5 +3,6 @@ use Rattle.std.specs.Prelude.{List}
 use Rattle.t7_book.specs.declared.order.Order.{Order}
 use Rattle.t7_book.specs.declared.orders.BookWalk.{BookWalk}
 
+-- the orders that a walk has still to give
 abbrev pub walk_rest : BookWalk → List Order
 walk_rest w = w.rest.now

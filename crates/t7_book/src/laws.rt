@@ -1,5 +1,13 @@
 //! Laws of the book, each as the contract of a function that does nothing.
 
+ghost use Rattle.std.specs.Prelude.{List, ◌*◌, ◌≤◌, length};
+ghost use Rattle.std.specs.List.{All};
+ghost use Rattle.t7_base.specs.Listing.{Listing};
+ghost use Rattle.t7_book.specs.declared.command.Command.{Command};
+ghost use Rattle.t7_book.specs.About.{IsAbout, IsLeft};
+ghost use Rattle.t7_book.specs.Orders.{empty_book, roster_of};
+ghost use Rattle.t7_book.specs.Steps.{messages};
+ghost use Rattle.t7_book.specs.Trace.{AreAccepted, book_left, trace};
 ghost use Rattle.t7_book.specs.Laws.{TracesGrow, AllTradeInTurn, MarketsAreBooks};
 
 /// Commands that follow change neither a message that was given nor the book after it.
@@ -17,4 +25,20 @@ pub fn orders_trade_in_turn()
 /// an order is its total less what was executed.
 pub fn markets_are_books()
     ensures { MarketsAreBooks }
+{}
+
+/// A day's accepted commands give at most four messages each, all in all.
+pub fn messages_are_few()
+    ensures { (listing : Listing) (cs : List Command) → AreAccepted listing cs → length (trace listing cs) ≤ 4 * length cs }
+{}
+
+/// Each message of accepted commands is one that a book gives, about a security of the product.
+pub fn messages_are_about_the_product()
+    ensures { (listing : Listing) (cs : List Command) → AreAccepted listing cs → All (IsAbout listing.securities) (messages (trace listing cs)) }
+{}
+
+/// What is left of each order of the book that accepted commands leave is its total less what was executed, and the book has at
+/// most 20,000 orders.
+pub fn books_left_are_whole()
+    ensures { (listing : Listing) (cs : List Command) → AreAccepted listing cs → IsLeft (book_left (empty_book (roster_of listing)) cs) }
 {}

@@ -17,7 +17,10 @@ mod trade;
 
 pub use book::Book;
 pub use command::{BookRefusal, Command, Done, Note};
-pub use laws::{markets_are_books, orders_trade_in_turn, traces_grow};
+pub use laws::{
+    books_left_are_whole, markets_are_books, messages_are_about_the_product, messages_are_few,
+    orders_trade_in_turn, traces_grow,
+};
 pub use order::Order;
 pub use orders::BookWalk;
 pub use trade::Trade;
