@@ -26,12 +26,12 @@ use Rattle.t7_eobi.proofs.WalkFacts.{faultless, headed, left_behind, room_role, 
 -- ---- a whole message, with bytes behind it
 
 -- what bytes that begin with a whole message begin with
-record Begins (m rest : List ℕ) : Type 0 where
-  body : body_of (m ++ rest) ≡ length m
-  message : message_of (m ++ rest) ≡ m
-  behind : drop (body_of (m ++ rest)) (m ++ rest) ≡ rest
-  whole : is_cut (m ++ rest) ≡ false
-  some : 0 < length (m ++ rest)
+pub record Begins (m rest : List ℕ) : Type 0 where
+  pub body : body_of (m ++ rest) ≡ length m
+  pub message : message_of (m ++ rest) ≡ m
+  pub behind : drop (body_of (m ++ rest)) (m ++ rest) ≡ rest
+  pub whole : is_cut (m ++ rest) ≡ false
+  pub some : 0 < length (m ++ rest)
 
 take_front : (m rest : List ℕ) → take (length m) (m ++ rest) ≡ m
 take_front [] [] = refl
@@ -49,7 +49,7 @@ uncut n body a b d =
     let z : nat_lt n body ≡ false = grind (arith, nat_tests) in
     rw (x, y, z) refl
 
-begins : (m rest : List ℕ) → IsWhole m → Begins m rest
+pub begins : (m rest : List ℕ) → IsWhole m → Begins m rest
 unfolding body_of message_of is_cut
 begins m rest h =
     let l = length-append m rest in
@@ -76,7 +76,7 @@ other_passes ls c m h = by (role_of ls m) refl
     by None e = refl
     by (Some r) e = rw (h.room r e) (fields r (in_channel c r) refl e)
 
-passes_other : (ls : List Layout) (c : Channel) (m : List ℕ) → IsWhole m → message_fault ls c m ≡ None → IsOther ls c m
+pub passes_other : (ls : List Layout) (c : Channel) (m : List ℕ) → IsWhole m → message_fault ls c m ≡ None → IsOther ls c m
 unfolding message_fault
 passes_other ls c m whole e =
     record {
@@ -88,7 +88,7 @@ passes_other ls c m whole e =
     fault : (r : Role) → role_of ls m ≡ Some r → role_fault ls c r m ≡ None
     fault r is = rw is at e
 
-header_passes : (ls : List Layout) (segment : ℕ) (m : List ℕ) → IsHeader ls segment m → header_fault ls segment m ≡ None
+pub header_passes : (ls : List Layout) (segment : ℕ) (m : List ℕ) → IsHeader ls segment m → header_fault ls segment m ≡ None
 unfolding header_fault is_header names_product
 header_passes ls segment m h =
     let fields = sound_faultless (as_role ls role.PacketHeader m) h.sound in
@@ -97,7 +97,7 @@ header_passes ls segment m h =
     same : (z : ℤ) → cond (int_eq z z) None (Some why.Product) ≡ None
     same z = grind (arith)
 
-passes_header : (ls : List Layout) (segment : ℕ) (m : List ℕ) → IsWhole m → header_fault ls segment m ≡ None → IsHeader ls segment m
+pub passes_header : (ls : List Layout) (segment : ℕ) (m : List ℕ) → IsWhole m → header_fault ls segment m ≡ None → IsHeader ls segment m
 unfolding names_product
 passes_header ls segment m whole e =
     let h = headed ls segment m e in
@@ -139,7 +139,7 @@ cut_in_two (suc n) (x ∷ xs) = ap (λ (ys : List ℕ). x ∷ ys) (cut_in_two n 
 length_front : (n : ℕ) (xs : List ℕ) → n ≤ length xs → length (take n xs) ≡ n
 length_front n xs h = let e = ap length (cut_in_two n xs) in omega (arith, length-append (take n xs) (drop n xs), length-drop n xs, e)
 
-first_whole : (rest : List ℕ) → is_cut rest ≡ false → IsWhole (message_of rest)
+pub first_whole : (rest : List ℕ) → is_cut rest ≡ false → IsWhole (message_of rest)
 unfolding message_of body_of
 first_whole rest e =
     let bounds = not_cut rest e in
@@ -150,7 +150,11 @@ first_whole rest e =
       said = sym same ∙ ap body_of (cut_in_two (body_of rest) rest) ∙ sym l;
     }
 
-halves : (rest : List ℕ) → message_of rest ++ drop (body_of rest) rest ≡ rest
+pub message_size : (rest : List ℕ) → is_cut rest ≡ false → length (message_of rest) ≡ body_of rest
+unfolding message_of
+message_size rest e = let bounds = not_cut rest e in length_front (body_of rest) rest bounds.1
+
+pub halves : (rest : List ℕ) → message_of rest ++ drop (body_of rest) rest ≡ rest
 unfolding message_of
 halves rest = cut_in_two (body_of rest) rest
 
@@ -163,7 +167,7 @@ no_bytes : (rest : List ℕ) → length rest ≡ 0 → [] ≡ rest
 no_bytes [] h = refl
 no_bytes (b ∷ bs) h = absurd (omega arith)
 
-more_contained : (P : List ℕ → Type 0) (x : List ℕ) (xs : List (List ℕ)) → P x → ((m : List ℕ) → Contains xs m → P m) → (m : List ℕ) → Contains (x ∷ xs) m → P m
+pub more_contained : (P : List ℕ → Type 0) (x : List ℕ) (xs : List (List ℕ)) → P x → ((m : List ℕ) → Contains xs m → P m) → (m : List ℕ) → Contains (x ∷ xs) m → P m
 more_contained P x xs first each m (zero, inside, is) = subst P is first
 more_contained P x xs first each m (suc k, inside, is) = each m (k, omega arith, is)
 
@@ -248,6 +252,13 @@ datagram_faultless x bytes (header ∷ others) d =
     let k = datagram_known x header others (subst P (sym d.joined) d) in
     let Q : List ℕ → Type 0 = λ b. (fault_of x b ≡ None) × (messages_of b ≡ header ∷ others) in
     subst Q d.joined (k.faultless, k.all)
+
+-- the messages behind the header are those that are walked
+pub datagram_rest : (x : Reading) (bytes header : List ℕ) (others : List (List ℕ)) → IsDatagram x bytes (header ∷ others) → messages_of (behind bytes) ≡ others
+datagram_rest x bytes header others d =
+    let P : List ℕ → Type 0 = λ b. IsDatagram x b (header ∷ others) in
+    let k = datagram_known x header others (subst P (sym d.joined) d) in
+    ap (λ (b : List ℕ). messages_of (behind b)) (sym d.joined) ∙ k.rest
 
 -- ---- datagrams that are written
 

@@ -1,4 +1,5 @@
 pub mod FaultFacts
+pub mod FirstFaultFacts
 pub mod GrammarFacts
 pub mod ItemFacts
 pub mod MessageFacts

@@ -425,3 +425,15 @@ beat_said layouts last table h = can_be_said layouts role.EobiHeartbeat (beat_fi
 -- what is written over bytes leaves those behind it
 pub written_length : (size : ℕ) (message out new : List ℕ) → new ≡ message ++ drop size out → length new ≡ length out → size ≤ length out → size ≡ length message
 written_length size message out new e same h = let l = ap length e in omega (arith, length-append {A = ℕ}, length-drop {A = ℕ}, l)
+
+pub public_size : (layouts : List Layout) (seq : ℕ) (m : Public) (t : Layout) → IsTable layouts → IsSequence seq → IsPublic m → find_role layouts (role_for m) ≡ Some t → length (public_bytes layouts seq m) ≡ t.size
+public_size layouts seq m t table n h found =
+    (written_is_of layouts (role_for m) (public_fields seq m) table (public_family m h) (public_fit seq m (some_public m h)) (public_good seq m n h)).size t found
+
+pub snap_size : (layouts : List Layout) (m : Snap) (t : Layout) → IsTable layouts → IsSnap m → find_role layouts (snap_role m) ≡ Some t → length (snap_bytes layouts m) ≡ t.size
+snap_size layouts m t table h found = (written_is_of layouts (snap_role m) (snap_fields m) table (snap_role_is m).family (snap_fit m) (snap_good m h)).size t found
+
+pub header_size : (layouts : List Layout) (segment count : ℕ) (t : Layout) → IsTable layouts → segment ≤ 2_147_483_647 → IsSequence count → find_role layouts role.PacketHeader ≡ Some t → length (header_bytes layouts segment count) ≡ t.size
+unfolding can_say_each can_say is_among name_number required family_of width_in kind_of number_kind number_width same_kind kind_text range_of
+header_size layouts segment count t table most n found =
+    (written_is_of layouts role.PacketHeader (header_fields segment count) table refl refl (good_seq name.ApplSeqNum count refl n, (good_segment segment most, tt))).size t found

@@ -140,22 +140,26 @@ snap_fields (snap.Instrument security count) = (name.SecurityID, number.Signed s
 snap_fields (snap.Order side price stamp qty) =
     (name.TrdRegTSTimePriority, number.Long stamp) ∷ (name.DisplayQty, number.Signed (pos qty)) ∷ (name.Side, number.Byte (side_number side)) ∷ (name.Price, number.Signed price) ∷ []
 
--- what a header says, and what a heartbeat says
+-- what a header says
 abbrev pub header_fields : ℕ → ℕ → List (FieldName × Number)
 header_fields segment count = (name.ApplSeqNum, number.Word count) ∷ (name.MarketSegmentID, number.SignedWord (pos segment)) ∷ []
 
+-- what a heartbeat says
 abbrev pub beat_fields : ℕ → List (FieldName × Number)
 beat_fields last = (name.LastMsgSeqNumProcessed, number.Word last) ∷ []
 
--- the bytes of each
+-- the bytes of a header
 abbrev pub header_bytes : List Layout → ℕ → ℕ → List ℕ
 header_bytes layouts segment count = message_of layouts role.PacketHeader (header_fields segment count)
 
+-- the bytes of a live message with its number
 abbrev pub public_bytes : List Layout → ℕ → Public → List ℕ
 public_bytes layouts seq message = message_of layouts (role_for message) (public_fields seq message)
 
+-- the bytes of a heartbeat
 abbrev pub beat_bytes : List Layout → ℕ → List ℕ
 beat_bytes layouts last = message_of layouts role.EobiHeartbeat (beat_fields last)
 
+-- the bytes of a message of the snapshot channel
 abbrev pub snap_bytes : List Layout → Snap → List ℕ
 snap_bytes layouts item = message_of layouts (snap_role item) (snap_fields item)

@@ -84,10 +84,11 @@ pub record Walk : Type 0 where
   pub layouts : List Layout
   pub rest : List ℕ
 
--- the items that are left, on the live channel and on the snapshot channel
+-- the items that are left on the live channel
 abbrev pub lives_left : Walk → List Live
 lives_left w = filter_map (live_of w.layouts) (messages_of w.rest)
 
+-- the items that are left on the snapshot channel
 abbrev pub snaps_left : Walk → List Snap
 snaps_left w = filter_map (snap_of w.layouts) (messages_of w.rest)
 
@@ -95,10 +96,11 @@ snaps_left w = filter_map (snap_of w.layouts) (messages_of w.rest)
 abbrev pub behind : List ℕ → List ℕ
 behind bytes = drop (body_of bytes) bytes
 
--- the items of a datagram, in order
+-- the items of a live datagram, in order
 abbrev pub lives_of : List Layout → List ℕ → List Live
 lives_of layouts bytes = lives_left (record { layouts = layouts; rest = behind bytes })
 
+-- the items of a snapshot datagram, in order
 abbrev pub snaps_of : List Layout → List ℕ → List Snap
 snaps_of layouts bytes = snaps_left (record { layouts = layouts; rest = behind bytes })
 

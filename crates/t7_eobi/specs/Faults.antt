@@ -70,6 +70,7 @@ role_fault layouts channel role message =
 unfoldable pub message_fault : List Layout → Channel → List ℕ → Option PacketWhy
 message_fault layouts channel message = option_map_or (λ role. role_fault layouts channel role message) (role_of layouts message) None
 
+-- a fault at a place
 abbrev pub fault_at : ℕ → PacketWhy → PacketFault
 fault_at place why = record { why = why; place = place }
 

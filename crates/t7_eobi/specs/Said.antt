@@ -35,6 +35,7 @@ SayLives layouts [] [] = Unit {0}
 SayLives layouts (item ∷ items) (message ∷ messages) = SaysLive layouts item message × SayLives layouts items messages
 SayLives layouts items messages = ⊥
 
+-- each message says its item of the snapshot channel
 abbrev pub SaySnaps : List Layout → List Snap → List (List ℕ) → Type 0
 SaySnaps layouts [] [] = Unit {0}
 SaySnaps layouts (item ∷ items) (message ∷ messages) = SaysSnap layouts item message × SaySnaps layouts items messages

@@ -13,7 +13,7 @@ mod write;
 pub use faults::{PacketFault, PacketWhy};
 pub use laws::{
     datagrams_are_messages_behind_a_header, datagrams_read_again, items_are_in_their_ranges,
-    what_is_written_is_said,
+    the_first_fault_is_told, what_is_written_is_said,
 };
 pub use packet::Packet;
 pub use walks::{Live, LiveWalk, Snap, SnapWalk};

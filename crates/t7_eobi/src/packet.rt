@@ -61,6 +61,19 @@ impl<'a> Packet<'a> {
         }
     }
 
+    /// A datagram that was accepted once by this table, for this product and channel, in place. Its bytes are not tested again.
+    pub fn accepted(table: &'a Table, segment: u32, channel: Channel, bytes: &'a [u8]) -> Packet<'a>
+        requires { fault_of (record { layouts = table.now; segment = segment; channel = channel }) bytes.now ≡ None }
+        ensures { result ≡ record { reading = record { layouts = table.now; segment = segment; channel = channel }; bytes = bytes.now } }
+    {
+        Packet {
+            table,
+            segment,
+            channel,
+            bytes,
+        }
+    }
+
     /// Its number in its channel, ApplSeqNum: 1 to 4,294,967,294.
     pub fn number(&self) -> u32
         ensures value { result ≡ packet_number self.now.reading.layouts self.now.bytes }

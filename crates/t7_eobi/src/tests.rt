@@ -2,7 +2,10 @@
 
 ghost use Rattle.std.specs.Prelude.{◌≡◌, ◌<◌, IfSome, pos};
 
+mod vectors;
+
 use super::*;
+use byteorder::{ByteOrder, LittleEndian};
 use std::test::Fail;
 use t7_base::{Channel, Price, Public, Qty, Resting, SecurityId, Side, Stamp};
 use t7_layout::Table;
@@ -133,28 +136,67 @@ fn a_datagram_is_cut_where_it_ends(rt: HostRuntime) -> Result<(), Fail> {
     Ok(())
 }
 
-// The place of the fault of LIVE with another byte.
-fn place_of_change(table: &Table, place: usize, byte: u8) -> Option<usize>
-    requires { place < 64 }
-{
-    let mut bytes = LIVE;
-    bytes[place] = byte;
-    let (_, found) = fault(table, Channel::Live, &bytes)?;
-    Some(found)
+// The order that stands behind a header and the message's own, by the places of the layout.
+fn order_in(bytes: &[u8; 64]) -> Option<Resting> {
+    Some(Resting {
+        security: SecurityId(LittleEndian::read_i64(&bytes[24..32])),
+        side: if bytes[48] == 1 {
+            Side::Buy
+        } else {
+            Side::Sell
+        },
+        price: Price::new(LittleEndian::read_i64(&bytes[56..64]))?,
+        stamp: Stamp::new(LittleEndian::read_u64(&bytes[32..40]))?,
+        qty: Qty::new(LittleEndian::read_i64(&bytes[40..48]))?,
+    })
+}
+
+// What LIVE with another byte says: its number, and behind a header that has its length still, one item. A heartbeat names what
+// stands where the order's security does.
+fn said(bytes: &[u8; 64]) -> Option<(u32, usize, [Option<Live>; 3])> {
+    let number = LittleEndian::read_u32(&bytes[20..24]);
+    let message = match LittleEndian::read_u16(&bytes[18..20]) {
+        2 => return Some((1, 64, [Some(Live::Beat(1001)), None, None])),
+        3 => Public::Add {
+            order: order_in(bytes)?,
+        },
+        6 => Public::Delete {
+            order: order_in(bytes)?,
+        },
+        7 => Public::MassDelete {
+            security: SecurityId(1001),
+        },
+        _ => Public::Other,
+    };
+    let item = if bytes[0] == 16 {
+        Some(Live::Message(number, message))
+    } else {
+        None
+    };
+    Some((
+        LittleEndian::read_u32(&bytes[8..12]),
+        64,
+        [item, None, None],
+    ))
+}
+
+// Where a fault of LIVE with another byte is: at its message. A header of another length puts it where the message behind it then begins.
+fn is_place(found: usize, place: usize, byte: u8) -> bool {
+    let message = if place < 16 { 0 } else { 16 };
+    let moved = place == 0 && byte > 16 && found == byte as usize;
+    found == message || moved
 }
 
 #[test]
-fn a_changed_byte_is_in_fault_at_its_message(rt: HostRuntime) -> Result<(), Fail> {
+fn a_changed_byte_is_in_fault_or_says_something_else(rt: HostRuntime) -> Result<(), Fail> {
     let table = Table::read(rt.alloc(), SAMPLE.as_bytes())?;
     for place in 0..64 {
         for byte in 0..=255 {
-            let message = if place < 16 { 0 } else { 16 };
-            // A header of another length puts the fault where the message behind it then begins.
-            let moved = place == 0 && (byte as usize) > 16;
-            match place_of_change(&table, place, byte) {
-                Some(found) if moved => assert!(rt; found == 0 || found == byte as usize),
-                Some(found) => assert_eq!(rt; found, message, "byte {place}"),
-                None => {}
+            let mut bytes = LIVE;
+            bytes[place] = byte;
+            match fault(&table, Channel::Live, &bytes) {
+                Some((_, found)) => assert!(rt; is_place(found, place, byte), "byte {place}"),
+                None => assert_eq!(rt; lives(&table, &bytes), said(&bytes), "byte {place}"),
             }
         }
     }
