@@ -1,3 +1,4 @@
+pub mod FramedFacts
 pub mod AgainFacts
 pub mod NullFacts
 pub mod OwnFacts

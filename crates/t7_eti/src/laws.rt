@@ -8,10 +8,13 @@ ghost use Rattle.t7_fields.specs.Spelling.{Seen};
 ghost use Rattle.t7_fields.specs.Writing.{AreKnown, IsWritten};
 ghost use Rattle.t7_eti.specs.declared.request.Request.{Request};
 ghost use Rattle.t7_eti.specs.declared.response.Response.{Response};
+ghost use Rattle.t7_eti.specs.Framed.{ResponsesAreFrames};
 ghost use Rattle.t7_eti.specs.Nulls.{IsOwn};
 ghost use Rattle.t7_eti.specs.Requests.{IsAskable, number_in, request_in, request_number};
 ghost use Rattle.t7_eti.specs.Responses.{response_in};
 ghost use Rattle.t7_eti.specs.Saying.{EachOrdinary, IsRanged, read_again, request_fields, request_role, response_fields, response_role};
+
+use t7_fields::a_message_says_what_is_written;
 
 /// Each template of a valid table is the one that the table has for its role, if it has a role. So messages under it may
 /// be read.
@@ -50,3 +53,11 @@ pub fn ordinary_requests_may_be_written()
 pub fn ordinary_responses_may_be_written()
     ensures { (layouts : List Layout) (r : Response) → IsTable layouts → EachOrdinary (response_fields r) → AreKnown layouts (response_role r) (response_fields r) }
 {}
+
+/// The bytes of a response are as many as its template has, 8 to 1,024, BodyLen says their count, and they are read as the
+/// response. So they are a frame of a connection, whatever stands before or behind them.
+pub fn responses_are_frames()
+    ensures { ResponsesAreFrames }
+{
+    a_message_says_what_is_written();
+}

@@ -14,7 +14,7 @@ mod write;
 
 pub use laws::{
     a_read_request_has_its_number, a_said_request_is_read, a_said_response_is_read,
-    ordinary_requests_may_be_written, ordinary_responses_may_be_written,
+    ordinary_requests_may_be_written, ordinary_responses_may_be_written, responses_are_frames,
     templates_of_a_table_may_be_read, templates_of_roles_may_be_read,
 };
 pub use nulls::FieldFault;

@@ -1,6 +1,6 @@
 // Requests, and the messages that are read as them.
 
-ghost use Rattle.std.specs.Prelude.{◌≡◌, ◌<◌, None, IfOk, pos, nat_abs, true};
+ghost use Rattle.std.specs.Prelude.{◌≡◌, ◌<◌, None, IfOk, IfSome, pos, nat_abs, true};
 ghost use Rattle.t7_layout.specs.declared.roles.FieldName.TheVariants as name;
 ghost use Rattle.t7_fields.specs.Messages.{is_among, value};
 ghost use Rattle.t7_eti.specs.Nulls.{HasFields, IsOwn, first_missing, sought};
@@ -187,7 +187,8 @@ fn request_of(m: &Fields<'_>) -> Result<Request, FieldFault>
 // The MsgSeqNum that a message of a request says, if any.
 #[tactic(auto, unfolding(t7_layout::specs::Roles::kind_of), using(crate::proofs::NullFacts::numbered_required, crate::proofs::NullFacts::number_width))]
 fn number_of(m: &Fields<'_>) -> Option<u32>
-    ensures { result ≡ number_of m.now }
+    ensures value { result ≡ number_of m.now }
+    ensures small { IfSome result (λ n. n < 4_294_967_295) }
 {
     if !is_numbered(m.role()) {
         return None;
@@ -228,7 +229,8 @@ pub fn read_request(table: &Table, view: View<'_>) -> Result<Request, FieldFault
 #[tactic(auto, unfolding(crate::specs::Requests::number_in))]
 pub fn read_number(table: &Table, view: View<'_>) -> Option<u32>
     requires { IsOwn table.now view.layout }
-    ensures { result ≡ number_in table.now view.entry }
+    ensures value { result ≡ number_in table.now view.entry }
+    ensures small { IfSome result (λ n. n < 4_294_967_295) }
 {
     match view.template().role() {
         Some(role) => number_of(&Fields::over(table, role, view)),
