@@ -1,33 +1,26 @@
 -- What a frame asks: the tests that need the layout table alone.
-use Rattle.std.specs.Prelude.{ℕ, ◌&&◌, if◌then◌else◌, nat_lt, not, List, Option, Some, None, Result, Ok, Err, length}
+use Rattle.std.specs.Prelude.{ℕ, if◌then◌else◌, nat_lt, List, Option, Some, None, Result, Ok, Err, length}
 use Rattle.t7_layout.specs.declared.roles.Role.{Role}
-use Rattle.t7_layout.specs.declared.roles.FieldName.TheVariants.{MsgSeqNum}
 use Rattle.t7_layout.specs.declared.words.Family.TheVariants.{Eti}
 use Rattle.t7_layout.specs.Layouts.{Layout}
 use Rattle.t7_layout.specs.Lookups.{find_template, role_of_layout}
-use Rattle.t7_layout.specs.Roles.{required}
-use Rattle.t7_fields.specs.Messages.{Message, is_among}
+use Rattle.t7_fields.specs.Messages.{Message}
 use Rattle.t7_fields.specs.Spelling.{template_id}
 use Rattle.t7_eti.specs.declared.nulls.FieldFault.{FieldFault}
 use Rattle.t7_eti.specs.declared.reason.Reason.{Reason}
 use Rattle.t7_eti.specs.declared.reason.Reason.TheVariants.{BadLength, UnknownTemplate, NullField}
 use Rattle.t7_eti.specs.declared.request.Request.{Request}
-use Rattle.t7_eti.specs.Nulls.{is_missing}
-use Rattle.t7_eti.specs.Requests.{count, is_request, request_of}
+use Rattle.t7_eti.specs.Requests.{is_request, number_of, request_of}
 use Rattle.t7_session.specs.declared.checks.Refusal.{Refusal}
 
 -- a refusal whose Reject carries no number
 abbrev pub unnumbered : Reason → Refusal
 unnumbered reason = record { seq = None; reason = reason }
 
--- the number that a Reject of a message carries: its MsgSeqNum, if it has to have one and says one that doesn't count as null
-unfoldable pub number_said : Message → Option ℕ
-number_said m = if is_among MsgSeqNum (required m.role) && not (is_missing m MsgSeqNum) then Some (count m MsgSeqNum) else None
-
--- the request of a message, which is refused where a field is missing
+-- the request of a message, which is refused where a field is missing; the Reject carries the message's number
 abbrev pub or_null : Message → Result Request FieldFault → Result Request Refusal
 or_null m (Ok request) = Ok request
-or_null m (Err fault) = Err (record { seq = number_said m; reason = NullField })
+or_null m (Err fault) = Err (record { seq = number_of m; reason = NullField })
 
 -- a frame under a request's template asks what it says, unless it is shorter than that
 abbrev pub asked_as : List Layout → List ℕ → Layout → Role → Result Request Refusal

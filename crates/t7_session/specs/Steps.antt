@@ -64,9 +64,13 @@ asked_in (Refuse seq reason) = None
 abbrev pub number_asked : Option Request → Option ℕ
 number_asked asked = option_and_then request_number asked
 
--- the number that follows what was asked: the one after the next number, where the session is logged on and this wasn't a Heartbeat
+-- the number that comes next behind what was asked: one more where a session is logged on and this wasn't a Heartbeat
+abbrev pub next_by : Option ℕ → ℕ → Option Request → ℕ
+next_by session next asked = if is_some session && is_some (number_asked asked) then next + 1 else next
+
+-- the next number of a connection whose front frame is treated
 abbrev pub next_after : Held → ℕ
-next_after held = if is_some held.session && is_some (number_asked held.asked) then held.next + 1 else held.next
+next_after held = next_by held.session held.next held.asked
 
 -- a session whose front frame is treated
 abbrev pub done_of : Held → Held

@@ -1,24 +1,23 @@
 // The tests on a frame that need nothing but the layout table and the state of its connection.
 
-ghost use Rattle.std.specs.Prelude.{◌≡◌, ℕ, ◌<◌, ◌≤◌, IfOk, IfSome, IsNone, Some, None, length, true};
+ghost use Rattle.std.specs.Prelude.{◌≡◌, ℕ, ◌<◌, ◌≤◌, IfOk, IfErr, IfSome, IsNone, Some, None, length, true};
 ghost use Rattle.std.specs.Option.{option_and_then};
 ghost use Rattle.t7_layout.specs.declared.words.Family.TheVariants.{Eti};
-ghost use Rattle.t7_layout.specs.declared.roles.FieldName.TheVariants as name;
 ghost use Rattle.t7_layout.specs.Lookups.{find_role, role_of_layout};
-ghost use Rattle.t7_layout.specs.Roles.{required};
-ghost use Rattle.t7_fields.specs.Messages.{is_among};
-ghost use Rattle.t7_fields.specs.Spelling.{template_id};
+ghost use Rattle.t7_fields.specs.Spelling.{Fits, template_id};
 ghost use Rattle.t7_frames.specs.Frames.{IsFrame};
-ghost use Rattle.t7_eti.specs.Requests.{IsAskable, is_request, request_number};
-ghost use Rattle.t7_session.specs.Asked.{asked_of, asked_as, number_said, unnumbered};
+ghost use Rattle.t7_eti.specs.Nulls.{IsOwn};
+ghost use Rattle.t7_eti.specs.Requests.{IsAskable, is_request, number_in, request_number};
+ghost use Rattle.t7_session.specs.Asked.{asked_of, asked_as, unnumbered};
+ghost use Rattle.t7_session.specs.Refused.{number_refused};
 ghost use Rattle.t7_session.specs.Steps.{asked_in, frame_step, has_number, is_logon, session_step};
 
 use crate::session::Step;
 use byteorder::{ByteOrder, LittleEndian};
 use t7_base::SessionId;
-use t7_eti::{Reason, Request, read_request};
-use t7_fields::{Fields, View};
-use t7_layout::{Family, FieldName, Role, Table, Template};
+use t7_eti::{Reason, Request, read_number, read_request};
+use t7_fields::View;
+use t7_layout::{Family, Role, Table, Template};
 
 /// Why a frame is refused, and the MsgSeqNum that its Reject carries.
 #[derive(Clone, Copy, Debug, PartialEq, Eq)]
@@ -61,34 +60,16 @@ fn is_request(role: Role) -> bool
     }
 }
 
-// The MsgSeqNum of a message, unless it has no value, or the greatest number, which counts as none.
-#[tactic(auto, unfolding(t7_layout::specs::Roles::kind_of))]
-fn sequence_number(m: &Fields<'_>) -> Option<u32>
-    requires { is_among name.MsgSeqNum (required m.now.role) ≡ true }
-    ensures { result ≡ number_said m.now }
+// The number that the Reject of a frame carries in which a field is missing.
+fn number_said(table: &Table, template: &Template, frame: &[u8]) -> Option<u32>
+    requires fits { Fits template.now frame.now }
+    requires own { IsOwn table.now template.now }
+    ensures value { result ≡ number_in table.now (record { layout = template.now; bytes = frame.now }) }
+    ensures small { IfSome result (λ n. n < 4_294_967_295) }
 {
-    match m.unsigned(FieldName::MsgSeqNum) {
-        Some(number) if number < u32::MAX as u64 => Some(number as u32),
-        _ => None,
-    }
-}
-
-// The number that a Reject of a request carries in which a field is missing.
-#[tactic(auto, unfolding(crate::specs::Asked::number_said, t7_eti::specs::Requests::is_request, t7_fields::specs::Messages::is_among, t7_layout::specs::Roles::name_number, t7_layout::specs::Roles::required))]
-fn number_said(m: &Fields<'_>) -> Option<u32>
-    requires { is_request m.now.role ≡ true }
-    ensures { result ≡ number_said m.now }
-{
-    match m.role() {
-        Role::LogonRequest => sequence_number(m),
-        Role::LogoutRequest => sequence_number(m),
-        Role::NewOrderSingleRequest => sequence_number(m),
-        Role::ModifyOrderSingleRequest => sequence_number(m),
-        Role::DeleteOrderSingleRequest => sequence_number(m),
-        Role::DeleteAllOrderRequest => sequence_number(m),
-        Role::RetransmitMEMessageRequest => sequence_number(m),
-        Role::EtiHeartbeat => None,
-        _ => unreachable!(),
+    match View::of(template, frame) {
+        Ok(view) => read_number(table, view),
+        Err(_) => unreachable!(),
     }
 }
 
@@ -106,17 +87,15 @@ fn asked_as(
     requires own { find_role table.now role ≡ Some template.now }
     ensures value { result ≡ asked_as table.now frame.now template.now role }
     ensures askable { IfOk result IsAskable }
+    ensures refused { IfErr result (λ r. IfSome r.seq (λ n. n < 4_294_967_295)) }
 {
-    let Ok(message) = Fields::of(table, role, frame) else {
-        return Err(unnumbered(Reason::BadLength));
-    };
     let Ok(view) = View::of(template, frame) else {
         return Err(unnumbered(Reason::BadLength));
     };
     match read_request(table, view) {
         Ok(request) => Ok(request),
         Err(_) => Err(Refusal {
-            seq: number_said(&message),
+            seq: number_said(table, template, frame),
             reason: Reason::NullField,
         }),
     }
@@ -128,6 +107,7 @@ pub(crate) fn asked(table: &Table, frame: &[u8]) -> Result<Request, Refusal>
     requires { IsFrame frame.now }
     ensures value { result ≡ asked_of table.now frame.now }
     ensures askable { IfOk result IsAskable }
+    ensures refused { IfErr result (λ r. IfSome r.seq (λ n. n < 4_294_967_295)) }
 {
     let Some(template) = table.template(Family::Eti, template_id(frame)) else {
         return Err(unnumbered(Reason::UnknownTemplate));
@@ -181,6 +161,7 @@ pub(crate) fn session_step(session: Option<SessionId>, next: u32, request: Reque
     ensures value { result ≡ session_step session next request }
     ensures next { IsAskable request → (IsNone session → next ≡ 1) → IfSome (option_and_then request_number (asked_in result)) (λ n. next < 4_294_967_295) }
     ensures askable { IsAskable request → IfSome (asked_in result) IsAskable }
+    ensures refused { IsAskable request → IfSome (number_refused result) (λ n. n < 4_294_967_295) }
 {
     let seq = number_of(request);
     let logon = is_logon(request);
@@ -212,6 +193,7 @@ pub(crate) fn frame_step(table: &Table, session: Option<SessionId>, next: u32, f
     ensures value { result ≡ frame_step table.now session next frame.now }
     ensures next { (IsNone session → next ≡ 1) → IfSome (option_and_then request_number (asked_in result)) (λ n. next < 4_294_967_295) }
     ensures askable { IfSome (asked_in result) IsAskable }
+    ensures refused { IfSome (number_refused result) (λ n. n < 4_294_967_295) }
 {
     match asked(table, frame) {
         Ok(request) => session_step(session, next, request),

@@ -3,8 +3,10 @@
 #![tactic(auto)]
 
 mod checks;
+mod laws;
 mod session;
 #[cfg(test)]
 mod tests;
 
+pub use laws::the_first_failing_test_is_told;
 pub use session::{Beat, Session, Step, heartbeat_interval};

@@ -1,10 +1,11 @@
 // One connection: its bytes, its session and its heartbeats.
 
-ghost use Rattle.std.specs.Prelude.{◌≡◌, ◌+◌, ◌-◌, ◌≤◌, ◌++◌, Some, length, take, min, IfOk, IfSome, IsNone, IsSome, if◌then◌else◌, ◌↔◌};
+ghost use Rattle.std.specs.Prelude.{◌≡◌, ◌+◌, ◌-◌, ◌<◌, ◌≤◌, ◌++◌, Some, length, take, min, IfOk, IfSome, IsNone, IsSome, if◌then◌else◌, ◌↔◌, max};
 ghost use Rattle.t7_frames.specs.Frames.{front_of, not_yet};
 ghost use Rattle.t7_eti.specs.Requests.{IsAskable};
 ghost use Rattle.t7_session.specs.Heartbeats.{beat_of, interval_of, is_empty};
 ghost use Rattle.t7_session.specs.Held.{opened};
+ghost use Rattle.t7_session.specs.Refused.{number_refused};
 ghost use Rattle.t7_session.specs.Steps.{asked_in, done_of, step_of};
 
 use crate::checks::{frame_step, number_of};
@@ -81,17 +82,18 @@ impl Session {
     }
 
     /// Takes the longest prefix of the piece that fits behind the untreated bytes, of which 8,192 are held at most, and
-    /// answers its length. Where the piece has a byte, this is the moment of the last receipt.
+    /// answers its length. Where the piece has a byte, this is the moment of the last receipt; a moment before the noted one
+    /// counts as equal to it.
     pub fn feed(&mut self, piece: &[u8], now: Moment) -> usize
         ensures count { result ≡ min (length piece.now) (8192 - length self.old.untreated) }
         ensures fed { self.new ≡ record self.old {
           untreated = self.old.untreated ++ take result piece.now;
-          received = if is_empty piece.now then self.old.received else now;
+          received = if is_empty piece.now then self.old.received else max self.old.received now;
         } }
         ensures limit { length self.new.untreated ≤ 8192 }
     {
         if !piece.is_empty() {
-            self.received = now.get();
+            self.received = self.received.max(now.get());
         }
         self.frames.feed(piece)
     }
@@ -105,6 +107,7 @@ impl Session {
         ensures waits { (result ≡ Step.NotYet) ↔ (front_of self.old.untreated ≡ not_yet) }
         ensures asks { self.new ≡ record self.old { asked = asked_in result } }
         ensures askable { IfSome (asked_in result) IsAskable }
+        ensures refused { IfSome (number_refused result) (λ n. n < 4_294_967_295) }
     {
         let step = match self.frames.front() {
             Frame::NotYet => Step::NotYet,
@@ -164,11 +167,11 @@ impl Session {
         }
     }
 
-    /// Notes that bytes were sent at this moment.
+    /// Notes that bytes were sent at this moment. A moment before the noted one counts as equal to it.
     pub fn sent(&mut self, now: Moment)
-        ensures { self.new ≡ record self.old { sent = now } }
+        ensures { self.new ≡ record self.old { sent = max self.old.sent now } }
     {
-        self.sent = now.get();
+        self.sent = self.sent.max(now.get());
     }
 
     /// The session that is logged on. None exactly where there is none.
