@@ -1,0 +1,11 @@
+pub mod Numbers
+pub mod Cutting
+pub mod Parts
+pub mod EntryFacts
+pub mod Treated
+pub mod Due
+pub mod Marks
+pub mod Owners
+pub mod Answering
+pub mod Rows
+pub mod Sayings

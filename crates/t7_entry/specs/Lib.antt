@@ -1,0 +1,9 @@
+pub mod ByNumber
+pub mod State
+pub mod Treatment
+pub mod Events
+pub mod Days
+pub mod Stalls
+pub mod Entries
+pub mod Answered
+pub mod Tellable
