@@ -1,0 +1,15 @@
+pub mod Growth
+pub mod OneCycle
+pub mod Befores
+pub mod Reached
+pub mod Sections
+pub mod Staging
+pub mod Sends
+pub mod Sent
+pub mod Words
+pub mod Genuine
+pub mod Ranges
+pub mod Sayable
+pub mod Grown
+pub mod OneReport
+pub mod Examples

@@ -1,0 +1,10 @@
+pub mod Arrivals
+pub mod Cycles
+pub mod Whole
+pub mod Reached
+pub mod Fitting
+pub mod Sending
+pub mod Report
+pub mod Words
+pub mod Growing
+pub mod Examples

@@ -1,0 +1,4 @@
+pub mod Gap
+pub mod Puts
+pub mod Ring
+pub mod Inside
