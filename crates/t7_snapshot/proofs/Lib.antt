@@ -1,0 +1,9 @@
+pub mod Held
+pub mod Search
+pub mod Cycles
+pub mod Told
+pub mod Bounds
+pub mod Scripts
+pub mod Fills
+pub mod Onward
+pub mod TallyFacts
