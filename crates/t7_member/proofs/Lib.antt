@@ -1,0 +1,13 @@
+pub mod Standings
+pub mod Moves
+pub mod Hear
+pub mod Snapshot
+pub mod Report
+pub mod Receive
+pub mod Staging
+pub mod Chaining
+pub mod Assembling
+pub mod Delivering
+pub mod Shown
+pub mod Refusing
+pub mod Fresh

@@ -1,0 +1,9 @@
+pub mod Standing
+pub mod Keeping
+pub mod Taking
+pub mod Steps
+pub mod Status
+pub mod Inside
+pub mod Shown
+pub mod Refusing
+pub mod Fresh
