@@ -1,0 +1,4 @@
+pub mod Cells
+pub mod Events
+pub mod Inside
+pub mod Lines

@@ -1,0 +1,15 @@
+//! The script of `replay`: the events that its lines are, and the lines of its reports.
+#![tactic(auto)]
+
+mod cells;
+mod event;
+mod lines;
+mod reading;
+mod words;
+
+pub use event::{Event, LineRefusal};
+pub use lines::{kept_line, misfit_words, order_line};
+pub use reading::read_event;
+
+#[cfg(test)]
+mod tests;
