@@ -8,13 +8,15 @@ use Rattle.t7_eti.specs.declared.request.Request.TheVariants as request
 use Rattle.t7_book.specs.declared.command.Command.{Command}
 use Rattle.t7_book.specs.declared.command.Command.TheVariants as command
 
--- the first security of the product file, its price step, and the first session
+-- the first security of the product file
 unfoldable pub first_security : Listing → ℤ
 first_security listing = slice_index_or listing.securities 0 (pos 0)
 
+-- the price step of the first security
 unfoldable pub first_tick : Listing → ℤ
 first_tick listing = slice_index_or listing.ticks 0 (pos 1)
 
+-- the first session of the product file
 unfoldable pub first_session : Listing → ℕ
 first_session listing = slice_index listing.sessions 0
 
@@ -22,13 +24,15 @@ first_session listing = slice_index listing.sessions 0
 abbrev pub is_between : ℤ → ℤ → ℤ → Bool
 is_between low high z = int_le low z && int_le z high
 
--- a price, a quantity in its range, and a multiple of a step
+-- a price in its range
 unfoldable pub is_price : ℤ → Bool
 is_price z = is_between (neg_ℤ (pos 100_000_000_000_000_000)) (pos 100_000_000_000_000_000) z
 
+-- a quantity in its range
 unfoldable pub is_quantity : ℤ → Bool
 is_quantity z = is_between (pos 1) (pos 1_000_000_000_000_000) z
 
+-- a price is a multiple of a step
 unfoldable pub is_multiple : ℤ → ℤ → Bool
 is_multiple price tick = nat_abs price % nat_abs tick == 0
 

@@ -1,5 +1,5 @@
 -- The commands and their words.
-use Rattle.std.specs.Prelude.{ℕ, List, [], ◌∷◌, Option, None, Some, IsOk, IsSomeAnd, codes, if◌then◌else◌}
+use Rattle.std.specs.Prelude.{ℕ, Bool, ◌||◌, List, [], ◌∷◌, Option, None, Some, IsOk, IsSomeAnd, codes, if◌then◌else◌}
 use Rattle.std.specs.Str.{bytes_eq}
 use Rattle.t7_outcome.specs.declared.ending.Status.{Status}
 use Rattle.t7_outcome.specs.declared.ending.Status.TheVariants as status
@@ -17,9 +17,13 @@ pub data Command : Type 0 where
   Help : Command
   Version : Command
 
+-- a word that asks for the commands and the exit statuses
+abbrev pub is_help : List ℕ → Bool
+is_help word = bytes_eq word (codes "--help") || bytes_eq word (codes "-h") || bytes_eq word (codes "help")
+
 -- the command that a word alone is a form of
 abbrev pub lone_command : List ℕ → Option Command
-lone_command word = if bytes_eq word (codes "--help") then Some Help else if bytes_eq word (codes "--version") then Some Version else None
+lone_command word = if is_help word then Some Help else if bytes_eq word (codes "--version") then Some Version else None
 
 -- the command that the words are a form of
 abbrev pub command_of : List (List ℕ) → Option Command

@@ -12,7 +12,7 @@ pub const HELP: &[u8] = b"t7: an exchange and a member after T7 ETI order entry 
 
 replay TABLE PRODUCT SCRIPT  plays the script's events over the layout table and the product file
 check TABLE                  lists the layout table's templates: family, id, name and length
---help                       prints this text
+--help, -h or help           prints this text
 --version                    prints the version
 
 Exit statuses:

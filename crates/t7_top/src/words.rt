@@ -16,7 +16,7 @@ pub enum Command<'a> {
     Check {
         table: &'a str,
     },
-    /// `--help`
+    /// `--help`, `-h` or `help`
     Help,
     /// `--version`
     Version,
@@ -44,7 +44,7 @@ pub fn read_words<'a>(words: &'a [String]) -> Option<Command<'a>>
 fn lone_command<'a>(word: &str) -> Option<Command<'a>>
     ensures { meant result ≡ lone_command word.now }
 {
-    if word == "--help" {
+    if word == "--help" || word == "-h" || word == "help" {
         Some(Command::Help)
     } else if word == "--version" {
         Some(Command::Version)
