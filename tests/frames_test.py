@@ -78,6 +78,30 @@ class Frames(unittest.TestCase):
             status, _, fault = run(f"SHOW\nIN 1 {words}\n")
             self.assertEqual((status, fault), (1, f"frames: {said}\n"))
 
+    def test_comments_and_blank_lines_are_left_out(self):
+        text = f"# a day\n\nRAW\n  \nIN 1 {NEW_WORDS}\n# its end\nSHOW\n"
+        self.assertEqual(run(text), (0, f"RAW\nIN 1 {NEW}\nSHOW\n", ""))
+        status, _, fault = run("# a day\n\nIN 1 Foo()\n")
+        self.assertEqual((status, fault), (1, "frames: line 3: the table has no ETI template Foo\n"))
+
+    def test_words(self):
+        for words, status, out, fault in [
+            (["--help"], 0, "Turns a readable script", ""),
+            (["-h"], 0, "Turns a readable script", ""),
+            ([str(SAMPLE), "-"], 0, "SHOW\n", ""),
+            ([str(SAMPLE), "nowhere/script"], 1, "", "frames: nowhere/script: No such file or directory\n"),
+            (["nowhere/table"], 1, "", "frames: nowhere/table: No such file or directory\n"),
+            ([str(SAMPLE), "one", "two"], 2, "", "usage: tools/frames TABLE [SCRIPT]\n"),
+        ]:
+            done = subprocess.run([sys.executable, str(TOOL), *words], input="SHOW\n", capture_output=True, text=True, check=False)
+            self.assertEqual((done.returncode, done.stdout[: len(out)], done.stderr), (status, out, fault))
+
+    def test_a_reader_that_goes(self):
+        tool = subprocess.Popen([sys.executable, str(TOOL), str(SAMPLE)], stdin=subprocess.PIPE, stdout=subprocess.PIPE, stderr=subprocess.PIPE)
+        tool.stdout.close()
+        _, fault = tool.communicate(b"SHOW\n" * 100_000)
+        self.assertEqual((tool.returncode, fault), (1, b""))
+
 
 if __name__ == "__main__":
     unittest.main()
