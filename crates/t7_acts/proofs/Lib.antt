@@ -1,0 +1,4 @@
+pub mod Lists
+pub mod Lives
+pub mod Cycling
+pub mod Sends
