@@ -2,3 +2,8 @@ pub mod Lists
 pub mod Lives
 pub mod Cycling
 pub mod Sends
+pub mod Adding
+pub mod Treating
+pub mod Happening
+pub mod Telling
+pub mod Leading

@@ -51,7 +51,8 @@ pub fn more_commands_send_more()
 pub fn a_heartbeat_sends_one_more()
     ensures live { (terms : Terms) (acts : List Act) →
         sent_on terms (acts ++ Beats ∷ []) channel.Live
-        ≡ sent_on terms acts channel.Live ++ live_bytes terms (of_beat (next_datagram terms acts channel.Live) (last_of terms.listing (commands_of acts)) ∷ []) }
+        ≡ sent_on terms acts channel.Live
+        ++ live_bytes terms (of_beat (next_datagram terms acts channel.Live) (last_of terms.listing (commands_of acts)) ∷ []) }
     ensures snap { (terms : Terms) (acts : List Act) → sent_on terms (acts ++ Beats ∷ []) channel.Snap ≡ sent_on terms acts channel.Snap }
     ensures commands { (acts : List Act) → commands_of (acts ++ Beats ∷ []) ≡ commands_of acts }
     ensures left { (terms : Terms) (acts : List Act) → left_of terms (acts ++ Beats ∷ []) ≡ left_of terms acts }
