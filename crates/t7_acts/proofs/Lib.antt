@@ -6,4 +6,5 @@ pub mod Adding
 pub mod Treating
 pub mod Happening
 pub mod Telling
-pub mod Leading
+pub mod Owing
+pub mod Stepping

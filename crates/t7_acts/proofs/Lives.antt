@@ -12,7 +12,7 @@ use Rattle.t7_packets.specs.Datagrams.{live_from, shipped}
 use Rattle.t7_packets.specs.Packing.{message_size, of_beat, room_in}
 
 -- a datagram for each run
-shipped_count : (number first : ℕ) (runs : List (List Public)) → length (shipped number first runs) ≡ length runs
+pub shipped_count : (number first : ℕ) (runs : List (List Public)) → length (shipped number first runs) ≡ length runs
 shipped_count number first [] = refl
 shipped_count number first (run ∷ runs) = (let rest = shipped_count (number + 1) (first + length run) runs in omega (arith, rest))
 

@@ -1,4 +1,4 @@
 pub mod Next
 pub mod Left
 pub mod Added
-pub mod Behind
+pub mod InStep
