@@ -1,9 +1,9 @@
-// Ranges of stored responses, against the numbers that they are to have.
+// Ranges of stored responses, against the numbers that they are to have, and what a client gathers.
 
 ghost use Rattle.std.specs.Prelude.{◌≤◌};
 ghost use Rattle.t7_recover.specs.Shelves.{spare_of};
 
-use crate::{BadRange, Store};
+use crate::{BadRange, Gathered, Offered, Store};
 use std::alloc::Global;
 use std::process::Abort;
 use std::test::Fail;
@@ -113,4 +113,33 @@ fn a_range_has_its_responses(rt: HostRuntime) -> Result<(), Fail> {
     let alloc = rt.alloc();
     let product = product(alloc)?;
     assert_ranges(&rt, alloc, &product)
+}
+
+// Responses as they are offered, each with what becomes of it.
+static OFFERS: [(u128, Offered); 8] = [
+    (2, Offered::Ahead),
+    (1, Offered::Next),
+    (1, Offered::Old),
+    (3, Offered::Ahead),
+    (2, Offered::Next),
+    (0, Offered::Old),
+    (u128::MAX, Offered::Ahead),
+    (3, Offered::Next),
+];
+
+#[test]
+fn the_next_response_alone_is_gathered(rt: HostRuntime) -> Result<(), Fail> {
+    let mut gathered = Gathered::new(rt.alloc())?;
+    for (order, &(number, wanted)) in OFFERS.iter().enumerate() {
+        assert_eq!(rt;
+            gathered.offer(number, deleted(order as u64))?,
+            wanted,
+            "{number}"
+        );
+    }
+    assert_eq!(rt;
+        gathered.list(),
+        [deleted(1), deleted(4), deleted(7)].as_slice()
+    );
+    Ok(())
 }
