@@ -1,4 +1,5 @@
 pub mod Cells
+pub mod Draws
 pub mod Events
 pub mod Inside
 pub mod Lines

@@ -2,11 +2,13 @@
 #![tactic(auto)]
 
 mod cells;
+mod draw;
 mod event;
 mod lines;
 mod reading;
 mod words;
 
+pub use draw::{Draw, sample};
 pub use event::{Event, LineRefusal};
 pub use lines::{kept_line, misfit_words, order_line};
 pub use reading::read_event;

@@ -1,6 +1,6 @@
 //! Lines of scripts and of reports, as the manual gives them.
 
-use crate::{Event, LineRefusal, kept_line, misfit_words, order_line, read_event};
+use crate::{Draw, Event, LineRefusal, kept_line, misfit_words, order_line, read_event, sample};
 use std::test::Fail;
 use t7_base::{Feed, Moment, OrderId, Price, Product, Qty, Resting, SecurityId, Side, Stamp};
 use t7_eti::Kept;
@@ -215,4 +215,21 @@ fn lines_are_written_at_the_front(rt: HostRuntime) -> Result<(), Fail> {
     let end = misfit_words(&differs().ok_or("misfit")?, &mut out);
     assert_eq!(rt; &out[..end], b"quantity 7 8".as_slice());
     Ok(())
+}
+
+// The first draws from a seed: the state times 6364136223846793005 plus 1442695040888963407, cut to 64 bits, gives its upper 31 bits.
+#[test]
+fn draws(rt: HostRuntime) {
+    for (seed, limits, numbers) in [
+        (1, [10, 2, 200], [4, 1, 196]),
+        (u64::MAX, [10, 1 << 33, 1], [8, 1_490_332_343, 0]),
+    ] {
+        let mut draw = Draw::new(seed);
+        for (limit, number) in limits.iter().zip(&numbers) {
+            if *limit > 0 {
+                assert_eq!(rt; draw.next(*limit), *number);
+            }
+        }
+    }
+    assert_eq!(rt; sample().first(), Some(&b'f'));
 }
