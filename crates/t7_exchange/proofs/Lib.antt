@@ -1,0 +1,16 @@
+pub mod MapFacts
+pub mod Leads
+pub mod WireFacts
+pub mod HolderFacts
+pub mod FrontFacts
+pub mod HoldFacts
+pub mod SayFacts
+pub mod ServeFacts
+pub mod TickFacts
+pub mod OutboxFacts
+pub mod DeskFacts
+pub mod ExchangeFacts
+pub mod JudgedFacts
+pub mod AcceptFacts
+pub mod ShrinkFacts
+pub mod EnterFacts

@@ -1,0 +1,11 @@
+pub mod Maps
+pub mod Sayable
+pub mod Outbox
+pub mod Handed
+pub mod Sending
+pub mod Wires
+pub mod Views
+pub mod Desks
+pub mod Trading
+pub mod Serving
+pub mod Inside

@@ -1,0 +1,85 @@
+-- The messages that are still to be sent, and how many datagrams were sent: of one product.
+use Rattle.std.specs.Prelude.{◌≡◌, ℕ, ◌+◌, ◌-◌, ◌≤◌, List, [], ◌∷◌, ◌++◌, length, take, drop, map}
+use Rattle.std.specs.List.{All}
+use Rattle.std.specs.declared.alloc.Global.{Global}
+use Rattle.std.specs.declared.vec.Vec.{Vec}
+use Rattle.t7_base.specs.Listing.{Listing}
+use Rattle.t7_base.specs.declared.public.Public.{Public}
+use Rattle.t7_layout.specs.Layouts.{Layout}
+use Rattle.t7_greedy.specs.Cuts.{IsFilled, IsLongestRun, joined}
+use Rattle.t7_packets.specs.Packing.{Datagram, IsWritable, datagram_bytes, message_size, of_messages, room_in}
+use Rattle.t7_entry.specs.Days.{before_others}
+use Rattle.t7_exchange.specs.declared.sent.Sent.{Sent}
+
+pub record Outbox : Type 0 where
+  -- of each command whose messages aren't all sent, those that aren't
+  pub untold : List (List Public)
+  -- the number of the last message
+  pub last : ℕ
+  -- how many datagrams were sent, and how many of them were heartbeats
+  pub live : ℕ
+  pub beats : ℕ
+  -- for how many more commands' messages there is room
+  pub spare : ℕ
+
+-- nothing was told, and nothing was sent
+abbrev pub empty_outbox : ℕ → Outbox
+empty_outbox spare = record { untold = []; last = 0; live = 0; beats = 0; spare = spare }
+
+-- the messages of each command
+abbrev pub lists_of : List (Vec Public Global) → List (List Public)
+lists_of queue = map (λ (messages : Vec Public Global). messages.items) queue
+
+-- these, without so many of the first command
+abbrev pub left_of : ℕ → List (List Public) → List (List Public)
+left_of begun [] = []
+left_of begun (first ∷ others) = drop begun first ∷ others
+
+-- the messages of the first command
+abbrev pub first_in : List (List Public) → List Public
+first_in [] = []
+first_in (first ∷ others) = first
+
+-- each command has messages that are still to be sent
+abbrev pub AreFilled : List (List Public) → Type 0
+AreFilled [] = Unit {0}
+AreFilled (first ∷ others) = IsFilled first × AreFilled others
+
+-- what stands in an outbox, where the next message has this number
+pub record IsOutbox (out : Outbox) (next : ℕ) : Type 0 where
+  pub some : 1 ≤ next
+  pub filled : AreFilled out.untold
+  pub writable : All IsWritable (joined out.untold)
+  pub numbers : next + length (joined out.untold) ≡ out.last + 1
+  pub few : out.last ≤ 800_000
+  pub beats : out.beats ≤ 2_000_000_000
+  pub live : out.live + length (joined out.untold) ≤ out.last + out.beats
+
+-- the messages of a command are told
+abbrev pub told : Outbox → List Public → ℕ → Outbox
+told out messages spare = record { untold = out.untold ++ before_others messages []; last = out.last + length messages; live = out.live; beats = out.beats; spare = spare }
+
+-- so many messages of the first command are sent in a datagram
+abbrev pub passed : Outbox → ℕ → ℕ → Outbox
+passed out used spare = record {
+  untold = before_others (drop used (first_in out.untold)) (drop 1 out.untold);
+  last = out.last;
+  live = out.live + 1;
+  beats = out.beats;
+  spare = spare;
+}
+
+-- a datagram is handed out in front of what stood in the buffer
+pub record IsPut (layouts : List Layout) (segment : ℕ) (d : Datagram) (old new : List ℕ) (sent : Sent) : Type 0 where
+  pub number : sent.number ≡ d.number
+  pub length : sent.len ≡ length (datagram_bytes layouts segment d)
+  pub bytes : new ≡ datagram_bytes layouts segment d ++ drop sent.len old
+
+-- the longest run of the first command's messages is sent and handed out
+pub record Ships (layouts : List Layout) (listing : Listing) (old new : Outbox) (old_out new_out : List ℕ) (sent : Sent) : Type 0 where
+  pub used : ℕ
+  pub some : 1 ≤ length (first_in old.untold)
+  pub few : length (joined old.untold) ≤ old.last
+  pub longest : IsLongestRun (message_size layouts) (room_in layouts listing.datagram) (first_in old.untold) (take used (first_in old.untold)) (drop used (first_in old.untold))
+  pub goes_on : new ≡ passed old used new.spare
+  pub put : IsPut layouts listing.segment (of_messages (old.live + 1) ((old.last - length (joined old.untold)) + 1) (take used (first_in old.untold))) old_out new_out sent

@@ -1,0 +1,161 @@
+// The messages that are still to be sent, and the live datagrams.
+
+ghost use Rattle.std.specs.Prelude.{◌≡◌, ◌+◌, ◌<◌, ◌≤◌, [], length, OnOk, OnErr, MatchOption, vec_len};
+ghost use Rattle.std.specs.List.{All};
+ghost use Rattle.t7_packets.specs.Packing.{IsWritable, of_beat};
+ghost use Rattle.t7_exchange.specs.Outbox.{IsPut, Ships, empty_outbox, first_in, passed, told};
+
+use crate::sent::Sent;
+use std::alloc::{AllocError, Global};
+use std::collections::VecDeque;
+use std::marker::Model;
+use t7_base::{Product, Public};
+use t7_layout::Table;
+use t7_packets::{pack, pack_beat};
+
+/// The messages that are still to be sent, those of each command in a list of its own, and the numbers of the messages and of
+/// the live datagrams: of one product.
+#[derive(Drop)]
+pub(crate) struct Outbox {
+    queue: VecDeque<Vec<Public>>,
+    // How many messages of the first list are sent.
+    begun: usize,
+    // The number of the last message, and that of the first one that isn't sent.
+    last: u32,
+    next: u32,
+    // How many datagrams were sent, and how many of them were heartbeats.
+    live: u32,
+    beats: u32,
+}
+
+impl Model for Outbox {
+    ghost use Rattle.std.specs.Prelude.{◌≡◌, ◌-◌, []};
+    ghost use Rattle.std.specs.VecDeque.{deque_capacity, deque_len};
+    ghost use Rattle.t7_exchange.specs.Outbox.{IsOutbox, Outbox, left_of, lists_of};
+
+    ghost Value = { Outbox };
+
+    ghost view = { λ a. record { untold = left_of a.begun (lists_of a.queue.items); last = a.last; live = a.live; beats = a.beats; spare = deque_capacity a.queue - deque_len a.queue } };
+
+    ghost invariant = { λ a. IsOutbox (record { untold = left_of a.begun (lists_of a.queue.items); last = a.last; live = a.live; beats = a.beats; spare = deque_capacity a.queue - deque_len a.queue }) a.next × (a.queue.items ≡ [] → a.begun ≡ 0) };
+}
+
+impl Outbox {
+    /// Nothing was told, and nothing was sent.
+    pub(crate) fn new(alloc: Global) -> Outbox
+        ensures { result ≡ empty_outbox result.spare }
+    {
+        Outbox {
+            queue: VecDeque::new(alloc),
+            begun: 0,
+            last: 0,
+            next: 1,
+            live: 0,
+            beats: 0,
+        }
+    }
+
+    /// The number of the last message, 0 where there was none.
+    pub(crate) fn last(&self) -> u32
+        ensures value { result ≡ self.now.last }
+        ensures few { result ≤ 800_000 }
+    {
+        self.last
+    }
+
+    /// Room for the messages of one command more. After an error nothing else has changed.
+    pub(crate) fn reserve(&mut self) -> Result<(), AllocError>
+        ensures same { self.new ≡ record self.old { spare = self.new.spare } }
+        ensures room { OnOk result (1 ≤ self.new.spare) }
+    {
+        self.queue.reserve(1)
+    }
+
+    /// The messages of a command are told.
+    pub(crate) fn push(&mut self, messages: Vec<Public>)
+        requires room { 1 ≤ self.old.spare }
+        requires writable { All IsWritable messages.items }
+        requires few { self.old.last + vec_len messages ≤ 800_000 }
+        ensures { self.new ≡ told self.old messages.items self.new.spare }
+    {
+        self.last += messages.len() as u32;
+        if !messages.is_empty() {
+            self.queue.push_back_reserved(messages);
+        }
+    }
+
+    // The messages of the first command that are still to be sent.
+    fn waiting(&self) -> &[Public]
+        ensures { result.now ≡ first_in self.now.untold }
+    {
+        match self.queue.front() {
+            Some(first) => &first[self.begun..],
+            None => &[],
+        }
+    }
+
+    // So many of them are sent in a datagram.
+    fn pass(&mut self, used: usize)
+        requires some { 1 ≤ used }
+        requires within { used ≤ length (first_in self.old.untold) }
+        ensures { self.new ≡ passed self.old used self.new.spare }
+    {
+        let count = self.waiting().len();
+        self.next += used as u32;
+        self.live += 1;
+        if used < count {
+            self.begun += used;
+            return;
+        }
+        self.begun = 0;
+        let _ = self.queue.pop_front();
+    }
+
+    /// The next datagram: of the messages of the first command, as many as fit. None exactly where no message waits.
+    pub(crate) fn next_datagram(
+        &mut self,
+        table: &Table,
+        product: &Product,
+        out: &mut [u8],
+    ) -> Option<Sent>
+        requires { 1472 ≤ length out.old }
+        ensures { MatchOption result ((self.old.untold ≡ []) × (self.new ≡ self.old) × (out.new ≡ out.old)) (λ s. Ships table.now product.now self.old self.new out.old out.new s) }
+    {
+        let number = self.live + 1;
+        let first = self.next;
+        let messages = self.waiting();
+        if messages.is_empty() {
+            return None;
+        }
+        let limit = product.datagram();
+        let packed = pack(
+            table,
+            product.segment(),
+            limit,
+            number,
+            first,
+            messages,
+            out,
+        );
+        self.pass(packed.used);
+        Some(Sent {
+            number,
+            len: packed.len,
+        })
+    }
+
+    /// A datagram of one heartbeat, which names the last message.
+    pub(crate) fn beat(&mut self, table: &Table, product: &Product, out: &mut [u8]) -> Sent
+        requires none { self.old.untold ≡ [] }
+        requires few { self.old.beats < 2_000_000_000 }
+        requires room { 1472 ≤ length out.old }
+        ensures put { IsPut table.now product.now.segment (of_beat (self.old.live + 1) self.old.last) out.old out.new result }
+        ensures counted { self.new ≡ record self.old { live = self.old.live + 1; beats = self.old.beats + 1 } }
+    {
+        let number = self.live + 1;
+        let len = pack_beat(table, product.segment(), number, self.last, out);
+        self.live = number;
+        self.beats += 1;
+        Sent { number, len }
+    }
+}
