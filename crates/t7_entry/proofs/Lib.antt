@@ -9,3 +9,4 @@ pub mod Owners
 pub mod Answering
 pub mod Rows
 pub mod Sayings
+pub mod LastBook

@@ -1,5 +1,5 @@
 -- The responses of commands may be written.
-use Rattle.std.proofs.Common.{◌≡◌, ◌≢◌, ℕ, zero, suc, ◌+◌, ◌-◌, ◌<◌, ◌≤◌, ◌==◌, ◌^◌, min, max, ℤ, pos, negsuc, Bool, true, false, not, cond, ◌&&◌, inl, inr, List, [], ◌∷◌, ◌++◌, length, Option, Some, None, refl, sym, ap, ◌∙◌, subst, arith}
+use Rattle.std.proofs.Common.{◌≡◌, ◌≢◌, ℕ, zero, suc, ◌+◌, ◌-◌, ◌<◌, ◌≤◌, ◌==◌, ◌^◌, ℤ, pos, negsuc, Bool, true, false, not, cond, ◌&&◌, inl, inr, List, [], ◌∷◌, length, Option, Some, None, refl, sym, ap, ◌∙◌, subst, arith}
 use Rattle.std.specs.Prelude.{Contains, ◌-ℤ◌, ◌≤ℤ◌}
 use Rattle.std.specs.List.{All, filter, find}
 use Rattle.std.proofs.lemmas.List.Elements.{All-append, All-cons, All-head, All-nil, All-tail}
@@ -24,7 +24,7 @@ use Rattle.t7_book.specs.declared.command.Note.TheVariants.{Cleared}
 use Rattle.t7_book.specs.Orders.{BookState, empty_book, is_of, is_order, order_of, roster_of, same_name, without}
 use Rattle.t7_book.specs.Commands.{IsForProduct, change_refusal, changed_order, delete_refusal, refusal, keeps_priority, new_order, new_stamp}
 use Rattle.t7_book.specs.Trades.{crosses, fills, taken, trades}
-use Rattle.t7_book.specs.Steps.{book_after, change_notes, changed_stamp, cleared, done_of, last_id_after, last_stamp_after, stamp_after_change, stamp_of}
+use Rattle.t7_book.specs.Steps.{book_after, change_notes, changed_stamp, cleared, stamp_after_change}
 use Rattle.t7_book.specs.Trace.{AreAccepted, AreAcceptedFrom}
 use Rattle.t7_book.specs.Laws.{Each, IsWhole}
 use Rattle.t7_book.proofs.Fit.{Known}

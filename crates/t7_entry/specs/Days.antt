@@ -1,7 +1,8 @@
--- What an exchange holds: order entry with its accepted commands, the replies that wait, and the messages that are still to be sent.
+-- What an exchange holds: order entry with its accepted commands, the replies that wait, the messages that are still to be sent, and the snapshot cycle under way.
 use Rattle.std.specs.Prelude.{◌≡◌, ℕ, ◌+◌, ◌-◌, List, [], ◌∷◌, ◌++◌, length}
 use Rattle.t7_base.specs.declared.public.Public.{Public}
 use Rattle.t7_layout.specs.Layouts.{Layout}
+use Rattle.t7_eobi.specs.declared.walks.Snap.{Snap}
 use Rattle.t7_book.specs.declared.command.Command.{Command}
 use Rattle.t7_book.specs.Orders.{BookState}
 use Rattle.t7_book.specs.Steps.{book_after, messages, steps}
@@ -26,10 +27,14 @@ pub record Day : Type 0 where
   pub live : ℕ
   -- how many of them were heartbeats
   pub beats : ℕ
+  -- the datagrams of the snapshot cycle under way that are left, none where none is under way
+  pub left : List (List Snap)
+  -- how many snapshot datagrams were sent
+  pub snaps : ℕ
 
 -- the beginning of a day
 abbrev pub new_day : Setting → Day
-new_day setting = record { setting = setting; state = start; waiting = []; untold = []; live = 0; beats = 0 }
+new_day setting = record { setting = setting; state = start; waiting = []; untold = []; live = 0; beats = 0; left = []; snaps = 0 }
 
 -- the replies among what was done, in order
 abbrev pub replies_in : List Doing → List Reply

@@ -3,7 +3,7 @@
 
 ghost use Rattle.std.specs.Prelude.{◌≡◌, ℕ, List, ◌∷◌, ◌++◌, ◌+◌, ◌≤◌, length, map, Contains};
 ghost use Rattle.t7_base.specs.Listing.{IsListing, Listing};
-ghost use Rattle.t7_book.specs.Trace.{AreAccepted, book_left};
+ghost use Rattle.t7_book.specs.Trace.{AreAccepted, book_left, market, trace};
 ghost use Rattle.std.specs.List.{All, concat};
 ghost use Rattle.t7_entry.specs.State.{Core, Setting, State, start};
 ghost use Rattle.t7_layout.specs.Layouts.{Layout};
@@ -63,4 +63,9 @@ pub fn responses_are_for_sessions()
 /// commands are in their ranges.
 pub fn responses_may_be_written()
     ensures { (listing : Listing) (cs : List Command) → IsListing listing → AreAccepted listing cs → All IsTellable cs → All CanBeTold (stored listing cs) }
+{}
+
+/// The book behind the last message of commands is the book that they leave.
+pub fn last_markets_are_books()
+    ensures { (listing : Listing) (cs : List Command) → market listing cs (length (trace listing cs)) ≡ (book_left (empty_book (roster_of listing)) cs).orders }
 {}

@@ -112,7 +112,8 @@ was_accepted setting accepted moment c mid new acts = record {
 }
 
 module _ (setting : Setting) (accepted : List Command) (out now : Outbox) (moment conn : ℕ) (c : Command) (w mid new : Wires) (was : Accepted setting accepted moment c mid new)
-    (waiting : mid.waiting ≡ w.waiting) (untold : now.untold ≡ out.untold ++ before_others (messages (steps (book_of setting accepted) c)) []) (live : now.live ≡ out.live) (beats : now.beats ≡ out.beats) where
+    (waiting : mid.waiting ≡ w.waiting) (untold : now.untold ≡ out.untold ++ before_others (messages (steps (book_of setting accepted) c)) []) (live : now.live ≡ out.live) (beats : now.beats ≡ out.beats)
+    (left : now.cycle.left ≡ out.cycle.left) (snaps : now.snaps ≡ out.snaps) where
   -- in answer to a frame
   pub went_accepted : (input : Input) → inputs_of new.held ≡ settled_at (inputs_of w.held) conn input (line_of (accept setting moment c (core_of accepted mid.held)).core conn)
       → went_on (day_of setting accepted w out) (with_input conn (state_of accepted w) input (accept setting moment c (core_of accepted mid.held))) ≡ day_of setting (accepted ++ c ∷ []) new now
@@ -123,6 +124,8 @@ module _ (setting : Setting) (accepted : List Command) (out now : Outbox) (momen
     untold = (ap (λ l. out.untold ++ l) was.told ∙ sym untold) i;
     live = sym live i;
     beats = sym beats i;
+    left = sym left i;
+    snaps = sym snaps i;
   }
 
   -- and without one
@@ -136,6 +139,8 @@ module _ (setting : Setting) (accepted : List Command) (out now : Outbox) (momen
     untold = (ap (λ m. out.untold ++ told_in (accept setting moment c (core_of accepted m)).doings) (sym held) ∙ ap (λ l. out.untold ++ l) was.told ∙ sym untold) i;
     live = sym live i;
     beats = sym beats i;
+    left = sym left i;
+    snaps = sym snaps i;
   }
 
 -- one command more whose fields are in their ranges

@@ -58,7 +58,7 @@ module _ (setting : Setting) (accepted : List Command) (out : Outbox) where
 
   -- the same connections and replies are the same day
   pub same_day : (w new : Wires) → new.held ≡ w.held → new.waiting ≡ w.waiting → day_of setting accepted new out ≡ day_of setting accepted w out
-  same_day w new held waiting = λ i. record { setting = setting; state = record { core = core_of accepted (held i); inputs = inputs_of (held i) }; waiting = waiting i; untold = out.untold; live = out.live; beats = out.beats }
+  same_day w new held waiting = λ i. record { setting = setting; state = record { core = core_of accepted (held i); inputs = inputs_of (held i) }; waiting = waiting i; untold = out.untold; live = out.live; beats = out.beats; left = out.cycle.left; snaps = out.snaps }
 
   -- so is a change that neither part sees
   pub unseen_day : (w : Wires) (conn : ℕ) (f : Held → Held) → Rises w.held → ((h : Held) → line_part (f h) ≡ line_part h) → ((h : Held) → input_part (f h) ≡ input_part h)
@@ -72,6 +72,8 @@ module _ (setting : Setting) (accepted : List Command) (out : Outbox) where
         untold = out.untold;
         live = out.live;
         beats = out.beats;
+        left = out.cycle.left;
+        snaps = out.snaps;
       })
 
   -- bytes are taken
@@ -89,6 +91,8 @@ module _ (setting : Setting) (accepted : List Command) (out : Outbox) where
         untold = out.untold;
         live = out.live;
         beats = out.beats;
+        left = out.cycle.left;
+        snaps = out.snaps;
       })
       ∙ sym (ap (taken_at moment conn (take count bytes) (day_of setting accepted w out)) (input_held w conn h there))
     where
@@ -131,6 +135,8 @@ module _ (setting : Setting) (accepted : List Command) (out : Outbox) where
     untold = sym (ap (λ ts. out.untold ++ ts) acts.silent ∙ append-nil out.untold) i;
     live = out.live;
     beats = out.beats;
+    left = out.cycle.left;
+    snaps = out.snaps;
   }
 
 -- a step that asks was allowed by the session

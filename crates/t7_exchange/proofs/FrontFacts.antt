@@ -42,6 +42,8 @@ went setting accepted out conn w new input act acts inputs = λ i. record {
   untold = (ap (λ ts. out.untold ++ ts) acts.silent ∙ append-nil out.untold) i;
   live = out.live;
   beats = out.beats;
+  left = out.cycle.left;
+  snaps = out.snaps;
 }
 
 module _ (setting : Setting) (accepted : List Command) (out : Outbox) (moment conn : ℕ) (w : Wires) (h : Held) (got : get w.held conn ≡ Some h) where

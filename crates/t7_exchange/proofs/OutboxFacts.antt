@@ -1,5 +1,5 @@
 -- The messages that are left when some were told or sent.
-use Rattle.std.proofs.Common.{◌≡◌, ℕ, zero, suc, ◌+◌, ◌-◌, ◌<◌, ◌≤◌, map, List, [], ◌∷◌, ◌++◌, length, take, drop, get_or, refl, sym, ap, ◌∙◌, subst, arith, length-append, length-drop, length-take, drop_of_length-le}
+use Rattle.std.proofs.Common.{◌≡◌, ℕ, zero, suc, ◌≢◌, ◌+◌, ◌-◌, ◌<◌, ◌≤◌, ◌^◌, nat_le, Bool, true, false, cond, map, List, [], ◌∷◌, ◌++◌, length, take, drop, get_or, refl, sym, ap, ◌∙◌, subst, arith, length-append, length-drop, length-take, drop_of_length-le}
 use Rattle.std.specs.List.{All}
 use Rattle.std.specs.declared.alloc.Global.{Global}
 use Rattle.std.specs.declared.vec.Vec.{Vec}
@@ -8,9 +8,14 @@ use Rattle.std.proofs.lemmas.List.Elements.{All-append, All-drop, All-nil, All-t
 use Rattle.t7_base.specs.declared.public.Public.{Public}
 use Rattle.t7_base.specs.Listing.{Listing}
 use Rattle.t7_layout.specs.Layouts.{Layout}
-use Rattle.t7_greedy.specs.Cuts.{IsFilled, IsLongestRun, joined}
+use Rattle.t7_greedy.specs.Cuts.{IsFilled, IsLongestRun, cut_from, joined}
 use Rattle.t7_packets.specs.Packing.{IsWritable, datagram_bytes, message_size, of_messages, room_in}
 use Rattle.t7_entry.specs.Days.{before_others}
+use Rattle.t7_base.specs.declared.public.Resting.{Resting}
+use Rattle.t7_eobi.specs.declared.walks.Snap.TheVariants as snap
+use Rattle.t7_feed.specs.Arrivals.{Terms}
+use Rattle.t7_feed.specs.Cycles.{body_of}
+use Rattle.t7_feed.specs.Sending.{cycle_at, parts_of, snap_size}
 use Rattle.t7_exchange.specs.Outbox.{AreFilled, IsOutbox, Outbox, Ships, first_in, left_of, lists_of, passed, told}
 
 -- lists behind others
@@ -61,6 +66,7 @@ told_well out next ms spare is writable few =
       numbers = omega (arith, count, numbers);
       few = few;
       beats = is.beats;
+      snaps = is.snaps;
       live = omega (arith, count, live);
     }
 
@@ -115,6 +121,7 @@ sent_well out next run left others is untold some =
       numbers = omega (arith, count, numbers);
       few = is.few;
       beats = is.beats;
+      snaps = is.snaps;
       live = omega (arith, count, live, some);
     }
   where
@@ -132,7 +139,7 @@ passed_well out next used spare is some within =
     let there : out.untold ≡ (run ++ drop used first) ∷ drop 1 out.untold = with_first out.untold (omega (arith, some, within)) ∙ ap (λ (x : List Public). x ∷ drop 1 out.untold) (sym cut) in
     let well = sent_well out next run (drop used first) (drop 1 out.untold) is there (omega (arith, long, some)) in
     let far : IsOutbox (record out { untold = before_others (drop used first) (drop 1 out.untold); live = out.live + 1 }) (next + used) = subst (λ n. IsOutbox (record out { untold = before_others (drop used first) (drop 1 out.untold); live = out.live + 1 }) (next + n)) long well in
-    record { some = far.some; filled = far.filled; writable = far.writable; numbers = far.numbers; few = far.few; beats = far.beats; live = far.live }
+    record { some = far.some; filled = far.filled; writable = far.writable; numbers = far.numbers; few = far.few; beats = far.beats; live = far.live; snaps = far.snaps }
 
 -- what is handed out
 pub ships_from : (layouts : List Layout) (listing : Listing) (old new : Outbox) (next : ℕ) (messages : List Public) (segment limit number used len : ℕ) (old_out new_out : List ℕ)
@@ -197,3 +204,23 @@ no_list (x ∷ xs) f e = absurd (let g : f x ∷ map f xs ≡ [] = e in cc)
 pub told_some : (ms : List Public) → 0 < length ms → before_others ms [] ≡ ms ∷ []
 told_some [] some = absurd (omega arith)
 told_some (m ∷ ms) some = refl
+
+-- a place among the messages of the first command
+pub place_within : (begun used : ℕ) (queue : List (Vec Public Global)) → used < length (first_in (left_of begun (lists_of queue))) → begun + used < 2 ^ 64
+place_within begun used [] less = absurd (omega arith)
+place_within begun used (v ∷ queue) less = omega (arith, length-drop begun v.items, v.ok, less)
+
+-- a cycle under way, or a new one, has datagrams left
+cut_from_some : {M : Type 0} (size : M → ℕ) (room : ℕ) (begun : List M) (left : ℕ) (xs : List M) → cut_from size room begun left xs ≢ []
+cut_from_some size room begun left [] = λ e. cc e
+cut_from_some size room begun left (x ∷ xs) = by_test (nat_le (size x) left) (cut_from_some size room (begun ++ x ∷ []) (left - size x) xs)
+  where
+    by_test : (b : Bool) → cut_from size room (begun ++ x ∷ []) (left - size x) xs ≢ []
+        → cond b (cut_from size room (begun ++ x ∷ []) (left - size x) xs) (begun ∷ cut_from size room (x ∷ []) (room - size x) xs) ≢ []
+    by_test true some = some
+    by_test false some = λ e. cc e
+
+pub cycle_some : (terms : Terms) (m : ℕ) (orders : List Resting) → cycle_at terms m orders ≢ []
+cycle_some terms m orders =
+    cut_from_some (snap_size terms.layouts) (room_in terms.layouts terms.listing.datagram) (snap.Product m ∷ []) (room_in terms.layouts terms.listing.datagram - snap_size terms.layouts (snap.Product m))
+    (body_of (parts_of terms.listing.securities orders))

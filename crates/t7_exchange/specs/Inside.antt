@@ -17,7 +17,7 @@ abbrev pub day_in : Inside → Day
 day_in e = day_of (record { layouts = e.table.now; listing = e.product.now }) e.desk.accepted e.wires e.outbox
 
 -- the desk is of the product, the fields of its commands are in their ranges and each of their responses may be written, sessions that are logged on are the product's, and the
--- outbox has counted the messages of the accepted commands
+-- outbox is of the table and the product and has counted the messages of the accepted commands
 pub record IsExchange (e : Inside) : Type 0 where
   pub table : IsTable e.table.now
   pub listing : IsListing e.product.now
@@ -26,4 +26,5 @@ pub record IsExchange (e : Inside) : Type 0 where
   pub tellable : All IsTellable e.desk.accepted
   pub ranged : AreRanged e.desk.accepted
   pub sessions : HoldOnly e.product.now.sessions e.wires.held
+  pub terms : e.outbox.cycle.terms ≡ record { layouts = e.table.now; listing = e.product.now }
   pub last : e.outbox.last ≡ length (trace e.product.now e.desk.accepted)

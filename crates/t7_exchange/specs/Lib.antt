@@ -1,6 +1,7 @@
 pub mod Maps
 pub mod Sayable
 pub mod Outbox
+pub mod OutboxInside
 pub mod Handed
 pub mod Sending
 pub mod Wires

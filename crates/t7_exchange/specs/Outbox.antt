@@ -1,4 +1,4 @@
--- The messages that are still to be sent, and how many datagrams were sent: of one product.
+-- The messages that are still to be sent, the snapshot cycle under way, and how many datagrams were sent: of one product.
 use Rattle.std.specs.Prelude.{◌≡◌, ℕ, ◌+◌, ◌-◌, ◌≤◌, List, [], ◌∷◌, ◌++◌, length, take, drop, map}
 use Rattle.std.specs.List.{All}
 use Rattle.std.specs.declared.alloc.Global.{Global}
@@ -9,6 +9,11 @@ use Rattle.t7_layout.specs.Layouts.{Layout}
 use Rattle.t7_greedy.specs.Cuts.{IsFilled, IsLongestRun, joined}
 use Rattle.t7_packets.specs.Packing.{Datagram, IsWritable, datagram_bytes, message_size, of_messages, room_in}
 use Rattle.t7_entry.specs.Days.{before_others}
+use Rattle.t7_base.specs.declared.public.Resting.{Resting}
+use Rattle.t7_eobi.specs.declared.walks.Snap.{Snap}
+use Rattle.t7_feed.specs.Arrivals.{Terms}
+use Rattle.t7_feed.specs.Sending.{cycle_at, snap_datagram_bytes, under_way}
+use Rattle.t7_snapshot.specs.Sending.{CycleState}
 use Rattle.t7_exchange.specs.declared.sent.Sent.{Sent}
 
 pub record Outbox : Type 0 where
@@ -19,12 +24,15 @@ pub record Outbox : Type 0 where
   -- how many datagrams were sent, and how many of them were heartbeats
   pub live : ℕ
   pub beats : ℕ
+  -- the sender of snapshot cycles, and how many snapshot datagrams were sent
+  pub cycle : CycleState
+  pub snaps : ℕ
   -- for how many more commands' messages there is room
   pub spare : ℕ
 
 -- nothing was told, and nothing was sent
-abbrev pub empty_outbox : ℕ → Outbox
-empty_outbox spare = record { untold = []; last = 0; live = 0; beats = 0; spare = spare }
+abbrev pub empty_outbox : Terms → ℕ → Outbox
+empty_outbox terms spare = record { untold = []; last = 0; live = 0; beats = 0; cycle = record { terms = terms; left = [] }; snaps = 0; spare = spare }
 
 -- the messages of each command
 abbrev pub lists_of : List (Vec Public Global) → List (List Public)
@@ -54,18 +62,17 @@ pub record IsOutbox (out : Outbox) (next : ℕ) : Type 0 where
   pub few : out.last ≤ 800_000
   pub beats : out.beats ≤ 2_000_000_000
   pub live : out.live + length (joined out.untold) ≤ out.last + out.beats
+  pub snaps : out.snaps ≤ 4_000_000_000
 
 -- the messages of a command are told
 abbrev pub told : Outbox → List Public → ℕ → Outbox
-told out messages spare = record { untold = out.untold ++ before_others messages []; last = out.last + length messages; live = out.live; beats = out.beats; spare = spare }
+told out messages spare = record out { untold = out.untold ++ before_others messages []; last = out.last + length messages; spare = spare }
 
 -- so many messages of the first command are sent in a datagram
 abbrev pub passed : Outbox → ℕ → ℕ → Outbox
-passed out used spare = record {
+passed out used spare = record out {
   untold = before_others (drop used (first_in out.untold)) (drop 1 out.untold);
-  last = out.last;
   live = out.live + 1;
-  beats = out.beats;
   spare = spare;
 }
 
@@ -83,3 +90,16 @@ pub record Ships (layouts : List Layout) (listing : Listing) (old new : Outbox) 
   pub longest : IsLongestRun (message_size layouts) (room_in layouts listing.datagram) (first_in old.untold) (take used (first_in old.untold)) (drop used (first_in old.untold))
   pub goes_on : new ≡ passed old used new.spare
   pub put : IsPut layouts listing.segment (of_messages (old.live + 1) ((old.last - length (joined old.untold)) + 1) (take used (first_in old.untold))) old_out new_out sent
+
+-- the cycle under way, or a new one of these orders beside the last message where none is
+abbrev pub frozen : Outbox → List Resting → Outbox
+frozen out orders = record out { cycle = record out.cycle { left = under_way out.cycle.left (cycle_at out.cycle.terms out.last orders) } }
+
+-- the next snapshot datagram of the cycle under way, or the first of a new one of these orders, is sent and handed out
+pub record Snaps (orders : List Resting) (old new : Outbox) (old_out new_out : List ℕ) (sent : Sent) : Type 0 where
+  pub items : List Snap
+  pub next : (frozen old orders).cycle.left ≡ items ∷ new.cycle.left
+  pub number : sent.number ≡ old.snaps + 1
+  pub count : sent.len ≡ length (snap_datagram_bytes old.cycle.terms sent.number items)
+  pub bytes : new_out ≡ snap_datagram_bytes old.cycle.terms sent.number items ++ drop sent.len old_out
+  pub goes_on : new ≡ record old { cycle = record old.cycle { left = new.cycle.left }; snaps = old.snaps + 1 }

@@ -78,6 +78,7 @@ pub record Orders (layouts : List Layout) (listing : Listing) (moment conn : ℕ
   pub accepted : AreAccepted listing new.accepted
   pub tellable : All IsTellable new.accepted
   pub ranged : AreRanged new.accepted
+  pub terms : new_out.cycle.terms ≡ old_out.cycle.terms
   pub last : new_out.last ≡ length (trace listing new.accepted)
   pub only : HoldOnly listing.sessions old_wires.held → HoldOnly listing.sessions new_wires.held
   pub treated : (h : Held) → get old_wires.held conn ≡ Some h → step_of layouts h ≡ Ask asked

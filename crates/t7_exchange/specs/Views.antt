@@ -12,4 +12,13 @@ abbrev pub state_of : List Command → Wires → State
 state_of accepted w = record { core = core_of accepted w.held; inputs = inputs_of w.held }
 
 abbrev pub day_of : Setting → List Command → Wires → Outbox → Day
-day_of setting accepted w out = record { setting = setting; state = state_of accepted w; waiting = w.waiting; untold = out.untold; live = out.live; beats = out.beats }
+day_of setting accepted w out = record {
+  setting = setting;
+  state = state_of accepted w;
+  waiting = w.waiting;
+  untold = out.untold;
+  live = out.live;
+  beats = out.beats;
+  left = out.cycle.left;
+  snaps = out.snaps;
+}

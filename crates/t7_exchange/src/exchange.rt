@@ -15,7 +15,7 @@ ghost use Rattle.t7_feed.specs.Arrivals.{AreTerms};
 ghost use Rattle.t7_feed.specs.Sending.{AreRanged};
 ghost use Rattle.t7_exchange.specs.Handed.{first_handed, first_written};
 ghost use Rattle.t7_exchange.specs.Outbox.{IsPut};
-ghost use Rattle.t7_exchange.specs.Sending.{IsSent};
+ghost use Rattle.t7_exchange.specs.Sending.{IsSent, IsSnapped};
 
 use crate::desk::Desk;
 use crate::outbox::Outbox;
@@ -28,16 +28,17 @@ use std::alloc::{AllocError, Global};
 use std::marker::Model;
 use t7_base::{Moment, Product, SecurityId, SessionId};
 use t7_book::{Book, Command};
+use t7_entry::last_markets_are_books;
 use t7_eti::{Kept, ordinary_responses_may_be_written, write_response};
 use t7_layout::Table;
 use t7_orders::MOST_COMMANDS;
 use t7_session::Step;
 
-/// The exchange of a product: order entry over any number of connections, the book, the stored responses and the live
-/// datagrams.
+/// The exchange of a product: order entry over any number of connections, the book, the stored responses, and the datagrams of both
+/// channels, live and snapshot.
 ///
 /// Contracts see it as `Day`: the layout table and the product, order entry with its accepted commands, the replies that wait in
-/// the order of their causes, the messages that are still to be sent, and the counts of datagrams.
+/// the order of their causes, the messages that are still to be sent, the snapshot cycle under way, and the counts of datagrams.
 #[derive(Drop)]
 pub struct Exchange<'t> {
     alloc: Global,
@@ -45,7 +46,7 @@ pub struct Exchange<'t> {
     product: &'t Product,
     desk: Desk,
     wires: Wires,
-    outbox: Outbox,
+    outbox: Outbox<'t>,
 }
 
 impl<'t> Model for Exchange<'t> {
@@ -114,7 +115,7 @@ impl<'t> Exchange<'t> {
             product,
             desk: Desk::new(alloc, product)?,
             wires: Wires::new(alloc),
-            outbox: Outbox::new(alloc),
+            outbox: Outbox::new(alloc, table, product)?,
         })
     }
 
@@ -237,6 +238,25 @@ impl<'t> Exchange<'t> {
         ensures counted { self.new ≡ record self.old { live = self.old.live + 1; beats = self.old.beats + 1 } }
     {
         self.outbox.beat(self.table, self.product, out)
+    }
+
+    /// The next snapshot datagram is written to the front of `out`, where no message waits and fewer than 4,000,000,000 were written: of the
+    /// cycle under way, or the first of a new one, which freezes the book beside the last message. No memory is taken.
+    pub fn snap(&mut self, out: &mut [u8]) -> Sent
+        requires none { self.old.untold ≡ [] }
+        requires few { self.old.snaps < 4_000_000_000 }
+        requires room { 1472 ≤ length out.old }
+        ensures { IsSnapped self.old self.new out.old out.new result }
+    {
+        last_markets_are_books();
+        self.outbox.snap(self.desk.book(), out)
+    }
+
+    /// Whether a snapshot cycle is under way: datagrams of it are left.
+    pub fn under_way(&self) -> bool
+        ensures { IsTrue result ↔ (self.now.left ≢ []) }
+    {
+        self.outbox.under_way()
     }
 
     /// What always holds of the day: the layout table and the product are valid, the book refused none of the accepted commands, and

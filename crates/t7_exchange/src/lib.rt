@@ -1,4 +1,4 @@
-//! The exchange: order entry over connections, the book, the stored responses and the live datagrams.
+//! The exchange: order entry over connections, the book, the stored responses, and the datagrams of both channels.
 #![tactic(auto)]
 
 mod connections;

@@ -1,22 +1,25 @@
-// The messages that are still to be sent, and the live datagrams.
+// The messages that are still to be sent, the live datagrams, and the snapshot datagrams.
 
-ghost use Rattle.std.specs.Prelude.{◌≡◌, ◌+◌, ◌<◌, ◌≤◌, [], length, OnOk, OnErr, MatchOption, vec_len};
+ghost use Rattle.std.specs.Prelude.{◌≡◌, ◌≢◌, ◌↔◌, ◌+◌, ◌<◌, ◌≤◌, [], length, IsTrue, IfOk, OnOk, OnErr, MatchOption, vec_len};
 ghost use Rattle.std.specs.List.{All};
 ghost use Rattle.t7_packets.specs.Packing.{IsWritable, of_beat};
-ghost use Rattle.t7_exchange.specs.Outbox.{IsPut, Ships, empty_outbox, first_in, passed, told};
+ghost use Rattle.t7_book.specs.Orders.{shown};
+ghost use Rattle.t7_exchange.specs.Outbox.{IsPut, Ships, Snaps, empty_outbox, first_in, frozen, passed, told};
 
 use crate::sent::Sent;
 use std::alloc::{AllocError, Global};
 use std::collections::VecDeque;
 use std::marker::Model;
 use t7_base::{Product, Public};
+use t7_book::Book;
 use t7_layout::Table;
 use t7_packets::{pack, pack_beat};
+use t7_snapshot::Cycle;
 
-/// The messages that are still to be sent, those of each command in a list of its own, and the numbers of the messages and of
-/// the live datagrams: of one product.
+/// The messages that are still to be sent, those of each command in a list of its own, the snapshot cycle under way, and the numbers of
+/// the messages and of the datagrams of both channels: of one product.
 #[derive(Drop)]
-pub(crate) struct Outbox {
+pub(crate) struct Outbox<'t> {
     queue: VecDeque<Vec<Public>>,
     // How many messages of the first list are sent.
     begun: usize,
@@ -26,33 +29,41 @@ pub(crate) struct Outbox {
     // How many datagrams were sent, and how many of them were heartbeats.
     live: u32,
     beats: u32,
+    // The sender of snapshot cycles, and how many datagrams it sent.
+    cycle: Cycle<'t>,
+    snaps: u32,
 }
 
-impl Model for Outbox {
-    ghost use Rattle.std.specs.Prelude.{◌≡◌, ◌-◌, []};
-    ghost use Rattle.std.specs.VecDeque.{deque_capacity, deque_len};
-    ghost use Rattle.t7_exchange.specs.Outbox.{IsOutbox, Outbox, left_of, lists_of};
+impl<'t> Model for Outbox<'t> {
+    ghost use Rattle.t7_exchange.specs.Outbox.{Outbox};
+    ghost use Rattle.t7_exchange.specs.OutboxInside.{IsOutboxInside, outbox_in};
 
     ghost Value = { Outbox };
 
-    ghost view = { λ a. record { untold = left_of a.begun (lists_of a.queue.items); last = a.last; live = a.live; beats = a.beats; spare = deque_capacity a.queue - deque_len a.queue } };
+    ghost view = { outbox_in };
 
-    ghost invariant = { λ a. IsOutbox (record { untold = left_of a.begun (lists_of a.queue.items); last = a.last; live = a.live; beats = a.beats; spare = deque_capacity a.queue - deque_len a.queue }) a.next × (a.queue.items ≡ [] → a.begun ≡ 0) };
+    ghost invariant = { IsOutboxInside };
 }
 
-impl Outbox {
-    /// Nothing was told, and nothing was sent.
-    pub(crate) fn new(alloc: Global) -> Outbox
-        ensures { result ≡ empty_outbox result.spare }
+impl<'t> Outbox<'t> {
+    /// Nothing was told, and nothing was sent. An error comes only where memory is wanting.
+    pub(crate) fn new(
+        alloc: Global,
+        table: &'t Table,
+        product: &'t Product,
+    ) -> Result<Outbox<'t>, AllocError>
+        ensures { IfOk result (λ out. out ≡ empty_outbox (record { layouts = table.now; listing = product.now }) out.spare) }
     {
-        Outbox {
+        Ok(Outbox {
             queue: VecDeque::new(alloc),
             begun: 0,
             last: 0,
             next: 1,
             live: 0,
             beats: 0,
-        }
+            cycle: Cycle::new(alloc, table, product)?,
+            snaps: 0,
+        })
     }
 
     /// The number of the last message, 0 where there was none.
@@ -156,6 +167,36 @@ impl Outbox {
         let len = pack_beat(table, product.segment(), number, self.last, out);
         self.live = number;
         self.beats += 1;
+        Sent { number, len }
+    }
+
+    /// Whether datagrams of a snapshot cycle are left.
+    pub(crate) fn under_way(&self) -> bool
+        ensures { IsTrue result ↔ (self.now.cycle.left ≢ []) }
+    {
+        self.cycle.under_way()
+    }
+
+    // A new cycle begins with the book beside the last message, where none is under way.
+    fn freeze(&mut self, book: &Book)
+        ensures frozen { self.new ≡ frozen self.old (shown book.now.orders) }
+        ensures left { self.new.cycle.left ≢ [] }
+    {
+        if !self.cycle.under_way() {
+            self.cycle.begin(book, self.last);
+        }
+    }
+
+    /// The next snapshot datagram: of the cycle under way, or the first of a new one of the book beside the last message.
+    pub(crate) fn snap(&mut self, book: &Book, out: &mut [u8]) -> Sent
+        requires few { self.old.snaps < 4_000_000_000 }
+        requires room { 1472 ≤ length out.old }
+        ensures { Snaps (shown book.now.orders) self.old self.new out.old out.new result }
+    {
+        self.freeze(book);
+        let number = self.snaps + 1;
+        let len = self.cycle.next_packet(number, out);
+        self.snaps = number;
         Sent { number, len }
     }
 }

@@ -159,7 +159,7 @@ pub(crate) fn enter(
     product: &Product,
     desk: &mut Desk,
     wires: &mut Wires,
-    outbox: &mut Outbox,
+    outbox: &mut Outbox<'_>,
     command: &Command,
 ) -> Result<(), AllocError>
     requires product { desk.old.roster ≡ roster_of product.now }
@@ -188,7 +188,7 @@ pub(crate) fn order(
     product: &Product,
     desk: &mut Desk,
     wires: &mut Wires,
-    outbox: &mut Outbox,
+    outbox: &mut Outbox<'_>,
     conn: u32,
     moment: Moment,
     session: SessionId,
@@ -227,7 +227,7 @@ pub(crate) fn answer(
     product: &Product,
     desk: &mut Desk,
     wires: &mut Wires,
-    outbox: &mut Outbox,
+    outbox: &mut Outbox<'_>,
     conn: u32,
     moment: Moment,
     request: &Request,

@@ -91,6 +91,7 @@ returns-in-Err-clause-ok c = on_ok c.reject.result (λ sends layouts.
       accepted = record { few = c.commands.ensures.few; each = subst (λ (r : Roster). AreAcceptedFrom (empty_book r) d.accepted) c.requires.product c.commands.ensures.each };
       tellable = c.requires.tellable;
       ranged = c.requires.ranged;
+      terms = refl;
       last = c.requires.last;
       only = c.reject.ensures.only listing.sessions;
       treated = λ h there stepped.
@@ -135,6 +136,7 @@ returns-clause-ok c = λ layouts.
           (subst (λ (r : Roster). IsForProduct r cmd) (sym c.requires.product) fit.product) (subst (λ (b : BookState). refusal b cmd ≡ None) c.book.ensures fit.allowed));
       tellable = subst (All IsTellable) (sym more) (All-push IsTellable accepted cmd c.requires.tellable tells);
       ranged = subst AreRanged (sym more) (ranged_more accepted cmd c.requires.ranged (fit.ranged c.get-nanoseconds.ensures.in_range));
+      terms = ap (λ (o : Outbox). o.cycle.terms) e.outbox;
       last =
           ap (λ (o : Outbox). o.last) e.outbox
           ∙ (λ i. c.requires.last i + length (messages (steps (book_is i) cmd)))
@@ -160,6 +162,6 @@ returns-clause-ok c = λ layouts.
           (c.deliver.ensures.inputs ∙ ap inputs_of b_is ∙ done_inputs accepted conn old.held h there) in
           front_asked setting accepted out moment conn old h there asked stepped
           ∙ ap (λ o. went_on (day_of setting accepted old out) (with_input conn (state_of accepted old) (input_part (done_of h)) o)) (is ∙ ap (accept setting moment cmd) (sym core_is))
-          ∙ went_accepted setting accepted out now moment conn cmd old b new accept_is waiting untold (ap (λ (o : Outbox). o.live) e.outbox) (ap (λ (o : Outbox). o.beats) e.outbox) (input_part (done_of h)) inputs
+          ∙ went_accepted setting accepted out now moment conn cmd old b new accept_is waiting untold (ap (λ (o : Outbox). o.live) e.outbox) (ap (λ (o : Outbox). o.beats) e.outbox) (ap (λ (o : Outbox). o.cycle.left) e.outbox) (ap (λ (o : Outbox). o.snaps) e.outbox) (input_part (done_of h)) inputs
           ∙ (λ i. day_of setting (sym more i) new now);
     }

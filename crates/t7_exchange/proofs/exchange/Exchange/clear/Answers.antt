@@ -44,6 +44,7 @@ invariant_of-self-2 c =
       tellable = subst (All IsTellable) (sym more) (All-push IsTellable e.desk.accepted cmd was.tellable tt);
       ranged = subst AreRanged (sym more) (ranged_more e.desk.accepted cmd was.ranged c.get-nanoseconds.ensures.in_range);
       sessions = c.deliver.ensures.only listing.sessions (subst (HoldOnly listing.sessions) (sym enters.wires.held) was.sessions);
+      terms = ap (λ (o : Outbox). o.cycle.terms) enters.outbox ∙ was.terms;
       last =
           ap (λ (o : Outbox). o.last) enters.outbox
           ∙ (λ i. was.last i + length (messages (steps (book_left (empty_book (was.roster i)) e.desk.accepted) cmd)))
@@ -83,7 +84,7 @@ returns-clause-ok c =
     let done : Result = record { state = record { core = outcome.core; inputs = inputs_of e.wires.held }; doings = outcome.doings } in
     let few : nat_lt (length accepted) 200_000 ≡ true = lt-ltb (length accepted) 200_000 (omega (arith, c.if-len.false, c.len.ensures.value)) in
     (λ i. day_of setting (more i) new now)
-    ∙ sym (went_cleared setting accepted out now moment 0 cmd e.wires mid new accept_is enters.wires.waiting untold (ap (λ (o : Outbox). o.live) enters.outbox) (ap (λ (o : Outbox). o.beats) enters.outbox)
+    ∙ sym (went_cleared setting accepted out now moment 0 cmd e.wires mid new accept_is enters.wires.waiting untold (ap (λ (o : Outbox). o.live) enters.outbox) (ap (λ (o : Outbox). o.beats) enters.outbox) (ap (λ (o : Outbox). o.cycle.left) enters.outbox) (ap (λ (o : Outbox). o.snaps) enters.outbox)
     enters.wires.held (c.deliver.ensures.inputs ∙ ap inputs_of enters.wires.held))
     ∙ sym (clears day c.args.security moment (is_listed listing c.args.security) (nat_lt (length accepted) 200_000) done (listed_security listing.securities c.args.security there) few)
     ∙ ap (λ (d : Day). day_after d (Clear c.args.security moment)) c.self.view_is

@@ -26,6 +26,7 @@ invariant_of-self c =
       sessions = by_result c.open.result
           (λ ok. subst (λ (w : Wires). HoldOnly sessions w.held) (sym ok) (only_opened sessions e.wires.held c.args.conn was.sessions))
           (λ err. subst (λ (w : Wires). HoldOnly sessions w.held) (sym err) was.sessions) c.open.ensures.ok c.open.ensures.err;
+      terms = was.terms;
       last = was.last;
     }
 

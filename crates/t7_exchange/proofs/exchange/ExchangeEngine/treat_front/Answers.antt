@@ -53,6 +53,7 @@ invariant_of-self c =
       tellable = was.tellable;
       ranged = was.ranged;
       sessions = only_stepped e.product.now.sessions e.wires w conn step.NotYet c.in-NotYet.ensures.asks c.self.invariant.sessions;
+      terms = was.terms;
       last = was.last;
     }
 
@@ -71,6 +72,7 @@ invariant_of-self-in_err-reserve-in-Refuse c =
       tellable = was.tellable;
       ranged = was.ranged;
       sessions = subst (HoldOnly e.product.now.sessions) (sym c.reserve.ensures.held) (only_stepped e.product.now.sessions e.wires w conn s c.in-Refuse.ensures.asks c.self.invariant.sessions);
+      terms = was.terms;
       last = was.last;
     }
 
@@ -89,6 +91,7 @@ invariant_of-self-in-Refuse c =
       tellable = was.tellable;
       ranged = was.ranged;
       sessions = c.refuse.ensures.only e.product.now.sessions (subst (HoldOnly e.product.now.sessions) (sym c.reserve.ensures.held) (only_stepped e.product.now.sessions e.wires w conn s c.in-Refuse.ensures.asks c.self.invariant.sessions));
+      terms = was.terms;
       last = was.last;
     }
 
@@ -108,6 +111,7 @@ invariant_of-self-in_err-answer-in-Ask c =
       tellable = subst (All IsTellable) (sym keeps.accepted) was.tellable;
       ranged = subst AreRanged (sym keeps.accepted) was.ranged;
       sessions = subst (HoldOnly e.product.now.sessions) (sym keeps.wires.held) (only_stepped e.product.now.sessions e.wires w conn s c.in-Ask.ensures.asks c.self.invariant.sessions);
+      terms = ap (λ (o : Outbox). o.cycle.terms) keeps.outbox ∙ was.terms;
       last = ap (λ (o : Outbox). o.last) keeps.outbox ∙ was.last ∙ ap (λ (l : List Command). length (trace e.product.now l)) (sym keeps.accepted);
     }
 
@@ -127,6 +131,7 @@ invariant_of-self-in-Ask c =
       tellable = went.tellable;
       ranged = went.ranged;
       sessions = went.only (only_stepped e.product.now.sessions e.wires w conn s c.in-Ask.ensures.asks c.self.invariant.sessions);
+      terms = went.terms ∙ was.terms;
       last = went.last;
     }
 

@@ -16,7 +16,7 @@ invariant_of-self c =
     let now = c.push_back_reserved.new.self in
     let ms = c.args.messages.items in
     let messages : Vec Public Global → List Public = λ v. v.items in
-    let out : Outbox = record { untold = left_of inside.begun (lists_of queue.items); last = inside.last; live = inside.live; beats = inside.beats; spare = deque_capacity queue - deque_len queue } in
+    let out : Outbox = record { untold = left_of inside.begun (lists_of queue.items); last = inside.last; live = inside.live; beats = inside.beats; cycle = inside.cycle; snaps = inside.snaps; spare = deque_capacity queue - deque_len queue } in
     let spare = deque_capacity now - deque_len now in
     let last : c.args.self.now.last ≡ inside.last = sym (ap (λ (o : Outbox). o.last) c.self.view_is) in
     let long : c.len.result ≡ length ms = omega (arith, c.len.ensures, c.args.messages.ok) in
@@ -29,8 +29,8 @@ invariant_of-self c =
     ap (left_of inside.begun) lists ∙ left_more inside.begun (lists_of queue.items) ms (λ e. c.self.invariant.1 (no_list queue.items messages e))
     ∙ ap (λ (l : List (List Public)). left_of inside.begun (lists_of queue.items) ++ l) (sym (told_some ms some))
     in
-    let is : told out ms spare ≡ record { untold = left_of inside.begun (lists_of now.items); last = inside.last + c.len.result; live = inside.live; beats = inside.beats; spare = spare } =
-    λ i. record { untold = sym left i; last = inside.last + sym long i; live = inside.live; beats = inside.beats; spare = spare }
+    let is : told out ms spare ≡ record { untold = left_of inside.begun (lists_of now.items); last = inside.last + c.len.result; live = inside.live; beats = inside.beats; cycle = inside.cycle; snaps = inside.snaps; spare = spare } =
+    λ i. record { untold = sym left i; last = inside.last + sym long i; live = inside.live; beats = inside.beats; cycle = inside.cycle; snaps = inside.snaps; spare = spare }
     in
     (subst (λ (o : Outbox). IsOutbox o inside.next) is well, λ none. absurd (not_none queue.items c.args.messages (sym c.push_back_reserved.ensures.items ∙ none)))
   where
