@@ -1,6 +1,5 @@
-pub mod Entering
-pub mod Lines
 pub mod Listing
+pub mod Reading
 pub mod Replaying
-pub mod Showing
 pub mod Telling
+pub mod Whole

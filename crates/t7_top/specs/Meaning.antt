@@ -1,10 +1,7 @@
--- A command's words and the events of a script, as the program keeps them.
+-- A command's words, as the program keeps them.
 use Rattle.std.specs.Prelude.{Option, None, Some}
-use Rattle.t7_top.specs.declared.script.Event.{Event}
-use Rattle.t7_top.specs.declared.script.Event.TheVariants.{Show, In}
 use Rattle.t7_top.specs.declared.words.Command.{Command}
 use Rattle.t7_top.specs.declared.words.Command.TheVariants.{Replay, Check, Help, Version}
-use Rattle.t7_top.specs.Script as script
 use Rattle.t7_top.specs.Words as words
 
 -- the command that the program keeps
@@ -14,9 +11,3 @@ meant (Some (Replay table product script)) = Some (words.Replay table.now produc
 meant (Some (Check table)) = Some (words.Check table.now)
 meant (Some Help) = Some words.Help
 meant (Some Version) = Some words.Version
-
--- the event that the program keeps
-abbrev pub meant_event : Option Event → Option script.Event
-meant_event None = None
-meant_event (Some Show) = Some script.Show
-meant_event (Some (In digits)) = Some (script.In digits.now)

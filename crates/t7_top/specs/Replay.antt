@@ -1,50 +1,28 @@
 -- `replay`: a script is played line by line over a layout table and a product file.
-use Rattle.std.specs.Prelude.{◌≡◌, ℕ, ◌+◌, List, [], ◌∷◌, Option, None, Some, Ok, length}
-use Rattle.std.specs.Option.{option_and_then}
+use Rattle.std.specs.Prelude.{◌≡◌, ℕ, List, Option, None, Some}
 use Rattle.t7_base.specs.Listing.{Listing}
 use Rattle.t7_base.specs.ProductFile.{ProductFault, fault_of as product_fault_of, product_of}
-use Rattle.t7_book.specs.declared.command.Command.{Command}
+use Rattle.t7_feed.specs.Arrivals.{Terms}
 use Rattle.t7_layout.specs.Faults.{fault_of}
 use Rattle.t7_layout.specs.Layouts.{Layout}
 use Rattle.t7_layout.specs.Tables.{table_of}
 use Rattle.t7_layout.specs.declared.words.TableFault.{TableFault}
-use Rattle.t7_outcome.specs.declared.ending.Finish.TheVariants.{End}
 use Rattle.t7_outcome.specs.declared.ending.Stop.{Stop}
-use Rattle.t7_outcome.specs.declared.ending.Stop.TheVariants.{Layout as LayoutStop, Product, Memory, Unbuilt}
-use Rattle.t7_outcome.specs.Outcome.{Outcome, Given, ends, stops, taking}
-use Rattle.t7_outcome.specs.Steps.{Step, Goes, Stops, stepped}
+use Rattle.t7_outcome.specs.declared.ending.Stop.TheVariants.{Layout as LayoutStop, Product, ReadFault, TooLong, Memory}
+use Rattle.t7_outcome.specs.Outcome.{Outcome, Given, stops, taking}
 use Rattle.t7_records.specs.Records.{records_of}
-use Rattle.t7_replay.specs.Floor.{Taken, entered, nothing_taken, with_command}
-use Rattle.t7_top.specs.Report.{shown_lines}
-use Rattle.t7_top.specs.Script.{Event, Show, In, bytes_of, event_at, lines_of}
-
--- the order that line number row enters, where its bytes are one
-abbrev pub entering : ℕ → Taken → Option Command → Step Taken
-entering row taken None = Stops (Unbuilt row)
-entering row taken (Some command) = Goes (with_command taken command) []
-
--- what an event at line number row does in a state
-abbrev pub done_by : ℕ → Taken → Event → Step Taken
-done_by row taken Show = Goes taken (shown_lines taken)
-done_by row taken (In digits) = entering row taken (option_and_then (entered taken) (bytes_of digits))
-
--- what line number row does in a state, where it has that event
-abbrev pub step_at : ℕ → Taken → Option Event → Step Taken
-step_at row taken None = Stops (Unbuilt row)
-step_at row taken (Some event) = done_by row taken event
-
--- what the lines from number row on come to in a state
-abbrev pub played : ℕ → Taken → List (List ℕ) → Outcome
-played row taken [] = ends (Ok (End (length taken.commands)))
-played row taken (line ∷ lines) = stepped (step_at row taken (event_at row line)) (λ after. played (row + 1) after lines)
+use Rattle.t7_replay.specs.Reports.{Moment}
+use Rattle.t7_replay.specs.Script.{lines_of}
+use Rattle.t7_replay.specs.Steps.{OfPlay, played}
+use Rattle.t7_replay.specs.World.{new_world}
 
 -- a table is checked, and a valid one says what follows
-abbrev pub checked : Option TableFault → Outcome → Outcome
+abbrev pub checked : Option TableFault → Outcome Moment → Outcome Moment
 checked None later = later
 checked (Some fault) later = stops (LayoutStop fault)
 
 -- a product file is checked, and a valid one says what follows
-abbrev pub checked_product : Option ProductFault → Outcome → Outcome
+abbrev pub checked_product : Option ProductFault → Outcome Moment → Outcome Moment
 checked_product None later = later
 checked_product (Some fault) later = stops (Product fault.row fault.why)
 
@@ -60,18 +38,31 @@ RefusesProduct fault (Product row why) = fault ≡ Some (record { row = row; why
 RefusesProduct fault Memory = Unit {0}
 RefusesProduct fault _ = ⊥
 
--- the script is played from its first line, before the first order
-abbrev pub scripted : List Layout → Listing → List ℕ → Given → Outcome
-scripted layouts listing script given = taking script given.files (λ lines. played 1 (nothing_taken layouts listing) (lines_of lines))
+-- both sides of the feed have this table and this product
+abbrev pub terms_of : List Layout → Listing → Terms
+terms_of layouts listing = record { layouts = layouts; listing = listing }
+
+-- the script is played from its first line, before anything was done
+abbrev pub scripted : Terms → List ℕ → Given → Outcome Moment
+scripted terms script given = taking script given.files (λ bytes. played terms new_world (lines_of bytes))
 
 -- the product file is taken behind a valid table, and the script behind a valid product file
-abbrev pub traded : List Layout → List ℕ → List ℕ → Given → Outcome
+abbrev pub traded : List Layout → List ℕ → List ℕ → Given → Outcome Moment
 traded layouts product script given =
     taking product given.files (λ items. checked_product (product_fault_of (records_of items))
-    (scripted layouts (product_of (records_of items)) script given))
+    (scripted (terms_of layouts (product_of (records_of items))) script given))
 
 -- `replay TABLE PRODUCT SCRIPT`
-abbrev pub replayed : List ℕ → List ℕ → List ℕ → Given → Outcome
+abbrev pub replayed : List ℕ → List ℕ → List ℕ → Given → Outcome Moment
 replayed table product script given =
     taking table given.files (λ rows. checked (fault_of (records_of rows))
     (traded (table_of (records_of rows)) product script given))
+
+-- the stops of `replay`: those of the playing, and those of the three files
+abbrev pub OfReplay : Stop → Type 0
+OfReplay (LayoutStop fault) = Unit {0}
+OfReplay (Product row why) = Unit {0}
+OfReplay ReadFault = Unit {0}
+OfReplay TooLong = Unit {0}
+OfReplay Memory = Unit {0}
+OfReplay stop = OfPlay stop

@@ -6,11 +6,12 @@ use Rattle.t7_outcome.specs.declared.ending.Status.{Status}
 use Rattle.t7_outcome.specs.declared.ending.Status.TheVariants as status
 use Rattle.t7_outcome.specs.declared.ending.Stop.TheVariants.{WriteFault}
 use Rattle.t7_outcome.specs.Ending.{Ended}
-use Rattle.t7_outcome.specs.Outcome.{Outcome}
+use Rattle.t7_outcome.specs.Outcome.{Outcome, Says}
+use Rattle.t7_replay.specs.Reports.{Moment}
 
 -- the text with a line feed behind it is printed, and nothing more
-abbrev pub told : List ℕ → Outcome
-told text = record { names = []; lines = text ∷ []; end = Some (Ok Text) }
+abbrev pub told : List ℕ → Outcome Moment
+told text = record { names = []; parts = Says text ∷ []; end = Some (Ok Text) }
 
 -- The text was printed whole, or a write fault cut it off, whatever else is held.
 abbrev pub Tells : List ℕ → Ended → Option (List ℕ) → Option (List ℕ) → Type 0

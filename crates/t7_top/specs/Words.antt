@@ -1,10 +1,11 @@
 -- The commands and their words.
-use Rattle.std.specs.Prelude.{ℕ, Bool, ◌||◌, List, [], ◌∷◌, Option, None, Some, IsOk, IsSomeAnd, codes, if◌then◌else◌}
+use Rattle.std.specs.Prelude.{ℕ, Bool, ◌||◌, List, [], ◌∷◌, Option, None, Some, codes, if◌then◌else◌}
 use Rattle.std.specs.Str.{bytes_eq}
 use Rattle.t7_outcome.specs.declared.ending.Status.{Status}
 use Rattle.t7_outcome.specs.declared.ending.Status.TheVariants as status
 use Rattle.t7_outcome.specs.declared.ending.Stop.TheVariants.{Usage}
 use Rattle.t7_outcome.specs.Outcome.{Outcome, Given, stops}
+use Rattle.t7_replay.specs.Reports.{Moment}
 use Rattle.t7_top.specs.declared.text.TheConstants.{HELP, VERSION}
 use Rattle.t7_top.specs.Check.{listed}
 use Rattle.t7_top.specs.Replay.{replayed}
@@ -39,19 +40,52 @@ files_of (Some (Check table)) = table ∷ []
 files_of _ = []
 
 -- what a command comes to, by what it is given from outside
-abbrev pub outcome_of : Option Command → Given → Outcome
+abbrev pub outcome_of : Option Command → Given → Outcome Moment
 outcome_of None given = stops Usage
 outcome_of (Some (Replay table product script)) given = replayed table product script given
 outcome_of (Some (Check table)) given = listed table given
 outcome_of (Some Help) given = told HELP.now
 outcome_of (Some Version) given = told VERSION.now
 
--- The command's input is whole: its files are held and within their limit, each is valid, and the script can be played to its end.
-abbrev pub IsComplete : Outcome → Type 0
-IsComplete plain = IsSomeAnd plain.end IsOk
-
--- The answers to words that are no form of a command: the last line may meet a write fault.
+-- The answers to words that are no form of a command; here and below the last line may meet a write fault.
 abbrev pub RefusesWords : Status → Type 0
 RefusesWords status.Usage = Unit {0}
 RefusesWords status.WriteFault = Unit {0}
 RefusesWords _ = ⊥
+
+-- the answers of a command that prints a text
+abbrev pub TellsText : Status → Type 0
+TellsText status.Done = Unit {0}
+TellsText status.WriteFault = Unit {0}
+TellsText _ = ⊥
+
+-- the answers of `check`
+abbrev pub ChecksTable : Status → Type 0
+ChecksTable status.Done = Unit {0}
+ChecksTable status.Layout = Unit {0}
+ChecksTable status.ReadFault = Unit {0}
+ChecksTable status.WriteFault = Unit {0}
+ChecksTable status.TooLong = Unit {0}
+ChecksTable status.Memory = Unit {0}
+ChecksTable _ = ⊥
+
+-- the answers of `replay`
+abbrev pub PlaysScript : Status → Type 0
+PlaysScript status.Done = Unit {0}
+PlaysScript status.Layout = Unit {0}
+PlaysScript status.Product = Unit {0}
+PlaysScript status.Script = Unit {0}
+PlaysScript status.ReadFault = Unit {0}
+PlaysScript status.WriteFault = Unit {0}
+PlaysScript status.TooLong = Unit {0}
+PlaysScript status.Memory = Unit {0}
+PlaysScript status.Unbuilt = Unit {0}
+PlaysScript _ = ⊥
+
+-- The answers that a command may give at all, whatever the files hold.
+abbrev pub MayAnswer : Option Command → Status → Type 0
+MayAnswer None answer = RefusesWords answer
+MayAnswer (Some (Replay table product script)) answer = PlaysScript answer
+MayAnswer (Some (Check table)) answer = ChecksTable answer
+MayAnswer (Some Help) answer = TellsText answer
+MayAnswer (Some Version) answer = TellsText answer

@@ -1,9 +1,8 @@
 //! `check TABLE`.
-ghost use Rattle.std.specs.Prelude.{◌≡◌, ◌≢◌, ◌≤◌, ◌∷◌, [], Err};
-ghost use Rattle.t7_base.specs.Outside.{Rose, Grew, Begins};
-ghost use Rattle.t7_outcome.specs.Ending.{status_of};
-ghost use Rattle.t7_outcome.specs.Outcome.{Where, Ends, Wrote, Asked};
-ghost use Rattle.t7_top.specs.Check.{listed};
+ghost use Rattle.std.specs.Prelude.{◌≡◌, ◌∷◌, [], Err, IfErr};
+ghost use Rattle.t7_outcome.specs.Performing.{TookFiles, WroteSink};
+ghost use Rattle.t7_replay.specs.Reports.{IsReported};
+ghost use Rattle.t7_top.specs.Check.{OfCheck, listed};
 
 use crate::inputs::read_table;
 use std::alloc::Global;
@@ -11,23 +10,16 @@ use t7_base::{Files, Sink};
 use t7_outcome::{Finish, Stop, fetch};
 
 /// Reads the table, and prints a line for each of its templates.
-#[tactic(auto, using(crate::proofs::Listing::listing_text))]
 pub fn run_check<F: Files, S: Sink>(
     alloc: Global,
     table: &str,
     files: &mut F,
     sink: &mut S,
 ) -> Result<Finish, Stop>
-    ensures end { Where (F.held files.old) (λ given. Ends (listed table.now given) result) }
-    ensures written { Where (F.held files.old) (λ given. Grew (S.written sink.old) (S.written sink.new) (Wrote (listed table.now given) result)) }
-    ensures took { Where (F.held files.old) (λ given. Grew (F.asked files.old) (F.asked files.new) (Asked (listed table.now given) (status_of result))) }
-    ensures asked { Grew (F.asked files.old) (F.asked files.new) (λ names. Begins names (table.now ∷ [])) }
-    ensures no_usage { result ≢ Err Stop.Usage }
-    ensures no_net { result ≢ Err Stop.NetFault }
-    ensures files_count { F.faults files.old ≤ F.faults files.new }
-    ensures sink_count { S.faults sink.old ≤ S.faults sink.new }
-    ensures read_fault { result ≡ Err Stop.ReadFault → Rose (F.faults files.old) (F.faults files.new) }
-    ensures write_fault { result ≡ Err Stop.WriteFault → Rose (S.faults sink.old) (S.faults sink.new) }
+    ensures files { TookFiles (listed table.now) (table.now ∷ []) result (F.held files.old) (F.asked files.old) (F.asked files.new) (F.faults files.old) (F.faults files.new) }
+    ensures sink { WroteSink IsReported (listed table.now) result (F.held files.old) (S.written sink.old) (S.written sink.new) (S.faults sink.old) (S.faults sink.new) }
+    ensures only { IfErr result OfCheck }
+    ensures unread { result ≡ Err Stop.ReadFault → S.written sink.new ≡ S.written sink.old }
 {
     let mut bytes = Vec::new(alloc);
     fetch(files, table, &mut bytes)?;

@@ -3,11 +3,7 @@
 
 mod check;
 mod inputs;
-mod line;
-mod play;
 mod replay;
-mod script;
-mod show;
 #[cfg(test)]
 mod tests;
 mod text;

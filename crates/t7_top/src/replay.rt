@@ -1,16 +1,15 @@
 //! `replay TABLE PRODUCT SCRIPT`.
-ghost use Rattle.std.specs.Prelude.{◌≡◌, ◌≢◌, ◌≤◌, ◌∷◌, [], Err};
-ghost use Rattle.t7_base.specs.Outside.{Rose, Grew, Begins};
-ghost use Rattle.t7_outcome.specs.Ending.{status_of};
-ghost use Rattle.t7_outcome.specs.Outcome.{Where, Ends, Wrote, Asked};
-ghost use Rattle.t7_top.specs.Replay.{replayed, scripted, traded};
+ghost use Rattle.std.specs.Prelude.{◌≡◌, ◌∷◌, [], Err, IfErr};
+ghost use Rattle.t7_outcome.specs.Performing.{TookFiles, WroteSink};
+ghost use Rattle.t7_replay.specs.Reports.{IsReported};
+ghost use Rattle.t7_top.specs.Replay.{OfReplay, replayed, scripted, terms_of, traded};
 
 use crate::inputs::{read_product, read_table};
-use crate::play::play;
 use std::alloc::Global;
 use t7_base::{Files, Product, Sink};
 use t7_layout::Table;
 use t7_outcome::{Finish, Stop, fetch};
+use t7_replay::play;
 
 /// Reads the table, the product file and the script, each checked before the next is read, and plays the script.
 pub fn run_replay<F: Files, S: Sink>(
@@ -21,16 +20,12 @@ pub fn run_replay<F: Files, S: Sink>(
     files: &mut F,
     sink: &mut S,
 ) -> Result<Finish, Stop>
-    ensures end { Where (F.held files.old) (λ given. Ends (replayed table.now product.now script.now given) result) }
-    ensures written { Where (F.held files.old) (λ given. Grew (S.written sink.old) (S.written sink.new) (Wrote (replayed table.now product.now script.now given) result)) }
-    ensures took { Where (F.held files.old) (λ given. Grew (F.asked files.old) (F.asked files.new) (Asked (replayed table.now product.now script.now given) (status_of result))) }
-    ensures asked { Grew (F.asked files.old) (F.asked files.new) (λ names. Begins names (table.now ∷ product.now ∷ script.now ∷ [])) }
-    ensures no_usage { result ≢ Err Stop.Usage }
-    ensures no_net { result ≢ Err Stop.NetFault }
-    ensures files_count { F.faults files.old ≤ F.faults files.new }
-    ensures sink_count { S.faults sink.old ≤ S.faults sink.new }
-    ensures read_fault { result ≡ Err Stop.ReadFault → Rose (F.faults files.old) (F.faults files.new) }
-    ensures write_fault { result ≡ Err Stop.WriteFault → Rose (S.faults sink.old) (S.faults sink.new) }
+    ensures files { TookFiles (replayed table.now product.now script.now) (table.now ∷ product.now ∷ script.now ∷ []) result
+        (F.held files.old) (F.asked files.old) (F.asked files.new) (F.faults files.old) (F.faults files.new) }
+    ensures sink { WroteSink IsReported (replayed table.now product.now script.now) result
+        (F.held files.old) (S.written sink.old) (S.written sink.new) (S.faults sink.old) (S.faults sink.new) }
+    ensures only { IfErr result OfReplay }
+    ensures unread { result ≡ Err Stop.ReadFault → S.written sink.new ≡ S.written sink.old }
 {
     let mut bytes = Vec::new(alloc);
     fetch(files, table, &mut bytes)?;
@@ -47,16 +42,12 @@ fn trade<F: Files, S: Sink>(
     files: &mut F,
     sink: &mut S,
 ) -> Result<Finish, Stop>
-    ensures end { Where (F.held files.old) (λ given. Ends (traded table.now product.now script.now given) result) }
-    ensures written { Where (F.held files.old) (λ given. Grew (S.written sink.old) (S.written sink.new) (Wrote (traded table.now product.now script.now given) result)) }
-    ensures took { Where (F.held files.old) (λ given. Grew (F.asked files.old) (F.asked files.new) (Asked (traded table.now product.now script.now given) (status_of result))) }
-    ensures asked { Grew (F.asked files.old) (F.asked files.new) (λ names. Begins names (product.now ∷ script.now ∷ [])) }
-    ensures no_usage { result ≢ Err Stop.Usage }
-    ensures no_net { result ≢ Err Stop.NetFault }
-    ensures files_count { F.faults files.old ≤ F.faults files.new }
-    ensures sink_count { S.faults sink.old ≤ S.faults sink.new }
-    ensures read_fault { result ≡ Err Stop.ReadFault → Rose (F.faults files.old) (F.faults files.new) }
-    ensures write_fault { result ≡ Err Stop.WriteFault → Rose (S.faults sink.old) (S.faults sink.new) }
+    ensures files { TookFiles (traded table.now product.now script.now) (product.now ∷ script.now ∷ []) result
+        (F.held files.old) (F.asked files.old) (F.asked files.new) (F.faults files.old) (F.faults files.new) }
+    ensures sink { WroteSink IsReported (traded table.now product.now script.now) result
+        (F.held files.old) (S.written sink.old) (S.written sink.new) (S.faults sink.old) (S.faults sink.new) }
+    ensures only { IfErr result OfReplay }
+    ensures unread { result ≡ Err Stop.ReadFault → S.written sink.new ≡ S.written sink.old }
 {
     let mut bytes = Vec::new(alloc);
     fetch(files, product, &mut bytes)?;
@@ -73,16 +64,12 @@ fn play_script<F: Files, S: Sink>(
     files: &mut F,
     sink: &mut S,
 ) -> Result<Finish, Stop>
-    ensures end { Where (F.held files.old) (λ given. Ends (scripted table.now product.now script.now given) result) }
-    ensures written { Where (F.held files.old) (λ given. Grew (S.written sink.old) (S.written sink.new) (Wrote (scripted table.now product.now script.now given) result)) }
-    ensures took { Where (F.held files.old) (λ given. Grew (F.asked files.old) (F.asked files.new) (Asked (scripted table.now product.now script.now given) (status_of result))) }
-    ensures asked { Grew (F.asked files.old) (F.asked files.new) (λ names. Begins names (script.now ∷ [])) }
-    ensures no_usage { result ≢ Err Stop.Usage }
-    ensures no_net { result ≢ Err Stop.NetFault }
-    ensures files_count { F.faults files.old ≤ F.faults files.new }
-    ensures sink_count { S.faults sink.old ≤ S.faults sink.new }
-    ensures read_fault { result ≡ Err Stop.ReadFault → Rose (F.faults files.old) (F.faults files.new) }
-    ensures write_fault { result ≡ Err Stop.WriteFault → Rose (S.faults sink.old) (S.faults sink.new) }
+    ensures files { TookFiles (scripted (terms_of table.now product.now) script.now) (script.now ∷ []) result
+        (F.held files.old) (F.asked files.old) (F.asked files.new) (F.faults files.old) (F.faults files.new) }
+    ensures sink { WroteSink IsReported (scripted (terms_of table.now product.now) script.now) result
+        (F.held files.old) (S.written sink.old) (S.written sink.new) (S.faults sink.old) (S.faults sink.new) }
+    ensures only { IfErr result OfReplay }
+    ensures unread { result ≡ Err Stop.ReadFault → S.written sink.new ≡ S.written sink.old }
 {
     let mut bytes = Vec::new(alloc);
     fetch(files, script, &mut bytes)?;

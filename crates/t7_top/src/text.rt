@@ -2,6 +2,7 @@
 ghost use Rattle.std.specs.Prelude.{◌≡◌, ◌≢◌, ◌≤◌, Ok, Err};
 ghost use Rattle.t7_base.specs.Outside.{Rose, Grew};
 ghost use Rattle.t7_outcome.specs.Outcome.{Ends, Wrote};
+ghost use Rattle.t7_replay.specs.Reports.{IsReported};
 ghost use Rattle.t7_top.specs.Text.{Tells, told};
 
 use t7_base::Sink;
@@ -20,6 +21,7 @@ Exit statuses:
  2  the words are no command (usage)
  3  the layout table is refused (layout: row r: why)
  4  the product file is refused (product: row r: why)
+ 5  a line of the script is no event or can't be done (script: row r: why)
  6  a file can't be read (read fault)
  7  a line can't be written
  9  a file has more than 16 MiB (too long)
@@ -32,7 +34,7 @@ pub const VERSION: &[u8] = b"t7 0.1.0";
 /// Writes the text and a line feed. It ends otherwise only at a write fault, and then the front of the text stands.
 pub fn tell<S: Sink>(text: &[u8], sink: &mut S) -> Result<Finish, Stop>
     ensures end { Ends (told text.now) result }
-    ensures written { Grew (S.written sink.old) (S.written sink.new) (Wrote (told text.now) result) }
+    ensures written { Grew (S.written sink.old) (S.written sink.new) (Wrote IsReported (told text.now) result) }
     ensures tells { Tells text.now result (S.written sink.old) (S.written sink.new) }
     ensures count { S.faults sink.old ≤ S.faults sink.new }
     ensures write_fault { result ≡ Err Stop.WriteFault → Rose (S.faults sink.old) (S.faults sink.new) }

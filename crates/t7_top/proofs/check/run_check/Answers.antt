@@ -1,0 +1,46 @@
+use Rattle.std.proofs.Common.{rules, ◌≡◌, None, Err, length}
+use Rattle.t7_layout.specs.Faults.{fault_of}
+use Rattle.t7_layout.specs.Tables.{table_of}
+use Rattle.t7_layout.specs.Texts.{table_text}
+use Rattle.t7_outcome.proofs.Taking.{sink_missed}
+use Rattle.t7_records.specs.Records.{records_of}
+use Rattle.t7_replay.specs.Reports.{IsReported}
+use Rattle.t7_top.specs.Check.{listing}
+use Rattle.t7_top.specs.Replay.{RefusesTable, checked}
+use Rattle.t7_top.proofs.Listing.{listed_cut, listed_whole}
+use Rattle.t7_top.proofs.Reading.{sink_memory, table_refused}
+use Rattle.t7_top.proofs.check.run_check.Goals as goal
+
+pub returns-in_err-fetch-clause-sink : goal.returns-in_err-fetch-clause-sink
+returns-in_err-fetch-clause-sink g c =
+    let is : c.from_residual.result ≡ Err c.in_err-fetch.field-0.0 = search rules in
+    rw is (sink_missed IsReported _ _ c.args.table.now
+    (λ given rows. checked (fault_of (records_of rows)) (listing (table_of (records_of rows))))
+    c.in_err-fetch.field-0.0 _ c.in_err-fetch.ensures.no_other (λ long. search rules))
+
+pub returns-in_err-table-clause-sink : goal.returns-in_err-table-clause-sink
+returns-in_err-table-clause-sink g c =
+    let is : c.from_residual-in_err-table.result ≡ Err c.in_err-table.field-0.0 = search rules in
+    let refused : RefusesTable (fault_of (records_of c.fetch.new.into.items)) c.in_err-table.field-0.0 = search rules in
+    rw is (table_refused _ _ c.args.table.now c.fetch.new.into.items (λ layouts given. listing layouts)
+    c.in_err-table.field-0.0 _ c.in_ok-fetch.ensures.ok refused)
+
+pub returns-in-Err-clause-sink : goal.returns-in-Err-clause-sink
+returns-in-Err-clause-sink g c = sink_memory _ _ _ _
+
+pub returns-in-Ok-put-clause-sink : goal.returns-in-Ok-put-clause-sink
+returns-in-Ok-put-clause-sink g c =
+    let valid : fault_of (records_of c.fetch.new.into.items) ≡ None = search rules in
+    let same : c.in_ok-table.table ≡ table_of (records_of c.fetch.new.into.items) = search rules in
+    let text : c.deref-2.result.now ≡ table_text c.in_ok-table.table = search rules in
+    let all : length c.templates.result.now ≡ length c.in_ok-table.table = search rules in
+    listed_whole (g.F.Files.held c.args.files.now) _ _ c.args.table.now c.fetch.new.into.items c.deref-2.result.now c.in_ok-table.table _ _ _ all same
+    c.in_ok-fetch.ensures.ok valid text c.in-Ok-put.ensures.ok c.put.ensures.cause.later
+
+pub returns-clause-sink : goal.returns-clause-sink
+returns-clause-sink g c =
+    let valid : fault_of (records_of c.fetch.new.into.items) ≡ None = search rules in
+    let same : c.in_ok-table.table ≡ table_of (records_of c.fetch.new.into.items) = search rules in
+    let text : c.deref-2.result.now ≡ table_text c.in_ok-table.table = search rules in
+    listed_cut (g.F.Files.held c.args.files.now) _ _ c.args.table.now c.fetch.new.into.items c.deref-2.result.now c.in_ok-table.table _ _ same
+    c.in_ok-fetch.ensures.ok valid text c.in-Err-put.ensures.err c.put.ensures.cause.later c.in-Err-put.ensures.cause.failed
