@@ -1,26 +1,28 @@
 -- The text of a layout table is the lines of its templates.
-use Rattle.std.proofs.Common.{◌≡◌, ◌≤◌, ℕ, List, [], ◌∷◌, ◌++◌, Option, None, Some, Result, Ok, Err, length, map, refl, sym, ◌∙◌, ap, subst, append_assoc}
+use Rattle.std.proofs.Common.{◌≡◌, ◌≤◌, ℕ, List, [], ◌∷◌, ◌++◌, Option, None, Some, Result, Ok, Err, IfOk, IfErr, OnOk, length, map, refl, sym, ◌∙◌, ap, subst, append_assoc}
 use Rattle.std.specs.Fmt.{decimal}
 use Rattle.t7_base.specs.Outside.{Begins, Grew, Rose}
-use Rattle.t7_base.proofs.Grown.{grew_as}
+use Rattle.t7_base.proofs.Grown.{grew_as, grew_nothing}
 use Rattle.t7_layout.specs.Faults.{fault_of}
 use Rattle.t7_layout.specs.Tables.{table_of}
 use Rattle.t7_layout.specs.declared.words.TableFault.{TableFault}
 use Rattle.t7_layout.specs.Layouts.{Layout}
 use Rattle.t7_layout.specs.Rows.{family_text}
 use Rattle.t7_layout.specs.Texts.{line_of, table_text}
+use Rattle.t7_outcome.specs.declared.ending.Finish.{Finish}
 use Rattle.t7_outcome.specs.declared.ending.Finish.TheVariants.{End}
 use Rattle.t7_outcome.specs.declared.ending.Stop.{Stop}
-use Rattle.t7_outcome.specs.declared.ending.Stop.TheVariants.{WriteFault}
+use Rattle.t7_outcome.specs.declared.ending.Stop.TheVariants.{WriteFault, Memory}
 use Rattle.t7_outcome.specs.Ending.{Ended}
-use Rattle.t7_outcome.specs.Outcome.{Ends, Given, Held, Outcome, Where, Wrote, asking, followed, says, text_of}
+use Rattle.t7_outcome.specs.Outcome.{Ends, Given, Held, Outcome, Wrote, asking, followed, says, text_of}
 use Rattle.t7_outcome.specs.Performing.{WroteSink}
+use Rattle.t7_outcome.specs.Steps.{OfPrint}
 use Rattle.t7_outcome.proofs.Lines.{fronts_all, spelled_says}
 use Rattle.t7_records.specs.Records.{records_of}
 use Rattle.t7_replay.specs.Reports.{Moment, IsReported}
 use Rattle.t7_top.specs.Check.{listed, listing, template_line}
 use Rattle.t7_top.specs.Replay.{checked}
-use Rattle.t7_top.proofs.Reading.{Read, where_read}
+use Rattle.t7_top.proofs.Reading.{Read, none_written, where_read}
 
 pieces : (f i n z e : List ℕ) → f ++ 32 ∷ i ++ 32 ∷ n ++ 32 ∷ z ++ e ≡ (f ++ 32 ∷ [] ++ i ++ 32 ∷ [] ++ n ++ 32 ∷ [] ++ z) ++ e
 pieces f i n z e = simp append_assoc refl
@@ -43,7 +45,8 @@ listed_is table rows layouts g found same valid whole =
     ∙ ap (λ (f : Option TableFault). asking table (checked f (listing (table_of (records_of rows))))) valid
     ∙ ap (λ (l : List Layout). asking table (listing l)) (sym same)
 
-module _ (o : Option Held) (p q : Option (List ℕ)) (table rows text : List ℕ) (layouts : List Layout) (n m : ℕ) where
+-- What the sink got of `check` behind a valid table, by what the printing says.
+module _ (o : Option Held) (p q : Option (List ℕ)) (table rows : List ℕ) (layouts : List Layout) (n m : ℕ) where
   sink_listed : (ended : Ended) → layouts ≡ table_of (records_of rows) → Read o table rows → fault_of (records_of rows) ≡ None
       → Ends (asking table (listing layouts)) ended → Grew p q (Wrote IsReported (asking table (listing layouts)) ended) → n ≤ m → (ended ≡ Err WriteFault → Rose n m)
       → WroteSink IsReported (listed table) ended o p q n m
@@ -56,22 +59,32 @@ module _ (o : Option Held) (p q : Option (List ℕ)) (table rows text : List ℕ
     fault = fault;
   }
 
-  pub listed_whole : (count : ℕ) → count ≡ length layouts → layouts ≡ table_of (records_of rows) → Read o table rows → fault_of (records_of rows) ≡ None → text ≡ table_text layouts
-      → Grew p q (λ w. w ≡ text) → n ≤ m → WroteSink IsReported (listed table) (Ok (End count)) o p q n m
-  listed_whole count all same read valid is wrote below =
-      sink_listed (Ok (End count)) same read valid (ap (λ (k : ℕ). let ended : Ended = Ok (End k) in Some ended) (sym all))
-      (grew_as p q (λ w. w ≡ text) (Wrote IsReported (asking table (listing layouts)) (Ok (End count))) wrote
-      (λ w this. (map template_line layouts, spelled_says IsReported (map template_line layouts), this ∙ is ∙ listing_text layouts)))
-      below (λ no. cc)
+  listed_ends : (ended : Ended) → IfOk ended (λ finish. finish ≡ End (length layouts)) → IfErr ended OfPrint → Ends (asking table (listing layouts)) ended
+  listed_ends (Ok finish) is of = ap (λ (f : Finish). let ended : Ended = Ok f in Some ended) (sym is)
+  listed_ends (Err WriteFault) is of = tt
+  listed_ends (Err Memory) is of = tt
+  listed_ends (Err stop) is of = absurd of
 
-  pub listed_cut : layouts ≡ table_of (records_of rows) → Read o table rows → fault_of (records_of rows) ≡ None → text ≡ table_text layouts
-      → Grew p q (λ w. Begins w text) → n ≤ m → Rose n m → WroteSink IsReported (listed table) (Err WriteFault) o p q n m
-  listed_cut same read valid is wrote below rose =
-      sink_listed (Err WriteFault) same read valid tt
-      (grew_as p q (λ w. Begins w text) (Wrote IsReported (asking table (listing layouts)) (Err WriteFault)) wrote
+  listed_wrote : (ended : Ended) → OnOk ended (Grew p q (λ w. w ≡ table_text layouts)) → (ended ≡ Err WriteFault → Grew p q (λ w. Begins w (table_text layouts)))
+      → (ended ≡ Err Memory → q ≡ p) → IfErr ended OfPrint → Grew p q (Wrote IsReported (asking table (listing layouts)) ended)
+  listed_wrote (Ok finish) whole cut nothing of =
+      grew_as p q (λ w. w ≡ table_text layouts) (Wrote IsReported (asking table (listing layouts)) (Ok finish)) whole
+      (λ w is. (map template_line layouts, spelled_says IsReported (map template_line layouts), is ∙ listing_text layouts))
+  listed_wrote (Err WriteFault) whole cut nothing of =
+      grew_as p q (λ w. Begins w (table_text layouts)) (Wrote IsReported (asking table (listing layouts)) (Err WriteFault)) (cut refl)
       (λ w front. (
         map template_line layouts,
         fronts_all IsReported (says (map template_line layouts)) (map template_line layouts) (spelled_says IsReported (map template_line layouts)),
-        subst (λ (l : List ℕ). Begins w l) (is ∙ listing_text layouts) front,
-      )))
-      below (λ no. rose)
+        subst (λ (l : List ℕ). Begins w l) (listing_text layouts) front,
+      ))
+  listed_wrote (Err Memory) whole cut nothing of =
+      subst (λ (r : Option (List ℕ)). Grew p r (Wrote IsReported (asking table (listing layouts)) (Err Memory))) (sym (nothing refl))
+      (grew_nothing p (Wrote IsReported (asking table (listing layouts)) (Err Memory)) (none_written (asking table (listing layouts))))
+  listed_wrote (Err stop) whole cut nothing of = absurd of
+
+  pub listed_sink : (ended : Ended) → layouts ≡ table_of (records_of rows) → Read o table rows → fault_of (records_of rows) ≡ None
+      → IfOk ended (λ finish. finish ≡ End (length layouts)) → OnOk ended (Grew p q (λ w. w ≡ table_text layouts))
+      → (ended ≡ Err WriteFault → Grew p q (λ w. Begins w (table_text layouts))) → (ended ≡ Err Memory → q ≡ p) → IfErr ended OfPrint → n ≤ m
+      → (ended ≡ Err WriteFault → Rose n m) → WroteSink IsReported (listed table) ended o p q n m
+  listed_sink ended same read valid finish whole cut nothing of below rose =
+      sink_listed ended same read valid (listed_ends ended finish of) (listed_wrote ended whole cut nothing of) below rose

@@ -3,7 +3,7 @@ use Rattle.std.proofs.Common.{◌≡◌, ◌≢◌, ◌≤◌, ℕ, List, [], �
 use Rattle.t7_base.specs.Listing.{Listing}
 use Rattle.t7_base.specs.Outside.{Begins, Grew, Rose}
 use Rattle.t7_base.specs.ProductFile.{ProductFault, fault_of as product_fault_of, product_of}
-use Rattle.t7_base.proofs.Grown.{grew_as, grew_nothing, grew_then}
+use Rattle.t7_base.proofs.Grown.{grew_nothing, grew_then}
 use Rattle.t7_layout.specs.Faults.{fault_of}
 use Rattle.t7_layout.specs.Layouts.{Layout}
 use Rattle.t7_layout.specs.Tables.{table_of}
@@ -11,7 +11,7 @@ use Rattle.t7_layout.specs.declared.words.TableFault.{TableFault}
 use Rattle.t7_outcome.specs.declared.ending.Status.{Status}
 use Rattle.t7_outcome.specs.declared.ending.Status.TheVariants as status
 use Rattle.t7_outcome.specs.declared.ending.Stop.{Stop}
-use Rattle.t7_outcome.specs.declared.ending.Stop.TheVariants.{Layout as LayoutStop, Product, ReadFault, WriteFault, Memory}
+use Rattle.t7_outcome.specs.declared.ending.Stop.TheVariants.{Layout as LayoutStop, Product, WriteFault, Memory}
 use Rattle.t7_outcome.specs.Ending.{Ended, status_of}
 use Rattle.t7_outcome.specs.Outcome.{Outcome, Part, Held, Given, Where, Asked, AskedOf, Ends, Spelled, Wrote, fetched, followed, taking}
 use Rattle.t7_outcome.specs.Performing.{TookFiles, WroteSink}
@@ -29,10 +29,6 @@ pub where_read : (o : Option Held) (name bytes : List ℕ) (P : Given → Type 0
 where_read None name bytes P read holds = tt
 where_read (Some h) name bytes P read holds = holds h read
 
-where_all : (o : Option Held) (P : Given → Type 0) → ((g : Given) → P g) → Where o P
-where_all None P holds = tt
-where_all (Some h) P holds = holds (record { files = h })
-
 grew_none : (o : Option Held) (p : Option (List ℕ)) (P : Given → List ℕ → Type 0) → Where o (λ g. P g []) → Where o (λ g. Grew p p (P g))
 grew_none None p P none = tt
 grew_none (Some h) p P none = grew_nothing p (P (record { files = h })) none
@@ -48,14 +44,8 @@ sink_stopped o p plain stop n uncut ends wrote = record {
   fault = λ is. absurd (uncut cc);
 }
 
-none_written : (plain : Outcome Moment) → Wrote IsReported plain (Err Memory) []
+pub none_written : (plain : Outcome Moment) → Wrote IsReported plain (Err Memory) []
 none_written plain = ([], [], fronts_none IsReported plain.parts, ([], refl), refl)
-
--- memory ran out before anything was written
-pub sink_memory : (o : Option Held) (p : Option (List ℕ)) (plain : Given → Outcome Moment) (n : ℕ) → WroteSink IsReported plain (Err Memory) o p p n n
-sink_memory o p plain n =
-    sink_stopped o p plain Memory n (λ is. cc) (where_all o (λ g. Ends (plain g) (Err Memory)) (λ g. tt))
-    (where_all o (λ g. Wrote IsReported (plain g) (Err Memory) []) (λ g. none_written (plain g)))
 
 -- a refused table
 table_ends : (plain later : Outcome Moment) (fault : Option TableFault) (stop : Stop) → plain.end ≡ (checked fault later).end → RefusesTable fault stop → Ends plain (Err stop)

@@ -7,7 +7,7 @@ use Rattle.t7_outcome.specs.declared.ending.Status.{Status}
 use Rattle.t7_outcome.specs.declared.ending.Status.TheVariants as status
 use Rattle.t7_outcome.specs.declared.ending.Stop.TheVariants.{ReadFault, WriteFault}
 use Rattle.t7_outcome.specs.Ending.{Ended, status_of}
-use Rattle.t7_outcome.specs.Outcome.{AskedOf, Ends, Given, Held, Outcome, Says, Where, Wrote, text_of}
+use Rattle.t7_outcome.specs.Outcome.{AskedOf, Ends, Given, Held, Outcome, Says, Where, Wrote}
 use Rattle.t7_outcome.specs.Performing.{TookFiles, WroteSink}
 use Rattle.t7_outcome.proofs.Lines.{begins_after, begins_more, fronts_all, spelled_says, text_of-one}
 use Rattle.t7_outcome.proofs.Taking.{took_none}

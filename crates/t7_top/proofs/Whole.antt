@@ -1,5 +1,5 @@
 -- A command whose input is whole comes to its end.
-use Rattle.std.proofs.Common.{◌≡◌, ◌⊎◌, ℕ, List, [], ◌∷◌, Option, None, Some, IsSomeAnd, IsOk, Result, Ok, Err, refl, sym, ◌∙◌, ap, subst, inl, inr}
+use Rattle.std.proofs.Common.{◌≡◌, ◌⊎◌, ℕ, List, [], ◌∷◌, Option, None, Some, IsSomeAnd, IsOk, Result, Ok, Err, refl, sym, subst, inl, inr}
 use Rattle.std.specs.Option.{option_map}
 use Rattle.t7_base.specs.Outside.{Rose}
 use Rattle.t7_base.specs.ProductFile.{ProductFault, fault_of as product_fault_of, product_of}
@@ -7,7 +7,6 @@ use Rattle.t7_feed.specs.Arrivals.{Terms}
 use Rattle.t7_layout.specs.Faults.{fault_of}
 use Rattle.t7_layout.specs.Tables.{table_of}
 use Rattle.t7_layout.specs.declared.words.TableFault.{TableFault}
-use Rattle.t7_outcome.specs.declared.ending.Finish.{Finish}
 use Rattle.t7_outcome.specs.declared.ending.Status.{Status}
 use Rattle.t7_outcome.specs.declared.ending.Status.TheVariants as status
 use Rattle.t7_outcome.specs.declared.ending.Stop.{Stop}
@@ -21,7 +20,7 @@ use Rattle.t7_replay.specs.Steps.{played, step_at}
 use Rattle.t7_replay.specs.World.{World, new_world}
 use Rattle.t7_top.specs.Check.{listing}
 use Rattle.t7_top.specs.Replay.{checked, checked_product, scripted, terms_of, traded}
-use Rattle.t7_top.specs.Whole.{EachGoes, IsComplete, IsWholeReplay, IsWholeTable}
+use Rattle.t7_top.specs.Whole.{EachGoes, IsComplete}
 use Rattle.t7_top.specs.Words.{Command, Replay, Check, Help, Version, MayAnswer, outcome_of}
 
 -- the outcome comes to its end

@@ -37,10 +37,11 @@ pub fn run<F: Files, S: Sink>(
     ensures version { command_of (map string_bytes words.now) ≡ Some Version → Told VERSION.now result (S.written sink.old) (S.written sink.new) }
 
     // The headline. At each SHOW of a script the printed state and orders are a report (`Report`) of what the exchange did and of what was
-    // delivered to the member by the lines so far: the number that is shown is supported by datagrams that were received; the orders are,
-    // one by one, those of the exchange's book after the message of that number; and the number is never below what a whole snapshot that
-    // came, with the messages behind it that came within the window, supports. The printed text as a whole is that of the command's outcome,
-    // in which these reports stand at their places, with its last line; a fault of the outside or want of memory cuts off its end.
+    // delivered to the member by the lines so far, while none of it was forged: the number that is shown is supported by datagrams that were
+    // received; the orders are, one by one, those of the exchange's book after the message of that number; and the number is never below
+    // what a whole snapshot that came, with the messages behind it that came within the window, supports. The printed text as a whole is
+    // that of the command's outcome, in which these reports stand at their places, with its last line; a fault of the outside or want of
+    // memory cuts off its end.
     ensures headline { Where (F.held files.old) (λ given. Grew (S.written sink.old) (S.written sink.new)
         (Printed IsReported (outcome_of (command_of (map string_bytes words.now)) given) result)) }
 

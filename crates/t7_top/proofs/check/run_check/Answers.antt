@@ -1,14 +1,13 @@
-use Rattle.std.proofs.Common.{rules, ◌≡◌, None, Err, length}
+use Rattle.std.proofs.Common.{rules, ◌≡◌, None, Err}
 use Rattle.t7_layout.specs.Faults.{fault_of}
 use Rattle.t7_layout.specs.Tables.{table_of}
-use Rattle.t7_layout.specs.Texts.{table_text}
 use Rattle.t7_outcome.proofs.Taking.{sink_missed}
 use Rattle.t7_records.specs.Records.{records_of}
 use Rattle.t7_replay.specs.Reports.{IsReported}
 use Rattle.t7_top.specs.Check.{listing}
 use Rattle.t7_top.specs.Replay.{RefusesTable, checked}
-use Rattle.t7_top.proofs.Listing.{listed_cut, listed_whole}
-use Rattle.t7_top.proofs.Reading.{sink_memory, table_refused}
+use Rattle.t7_top.proofs.Listing.{listed_sink}
+use Rattle.t7_top.proofs.Reading.{table_refused}
 use Rattle.t7_top.proofs.check.run_check.Goals as goal
 
 pub returns-in_err-fetch-clause-sink : goal.returns-in_err-fetch-clause-sink
@@ -25,22 +24,10 @@ returns-in_err-table-clause-sink g c =
     rw is (table_refused _ _ c.args.table.now c.fetch.new.into.items (λ layouts given. listing layouts)
     c.in_err-table.field-0.0 _ c.in_ok-fetch.ensures.ok refused)
 
-pub returns-in-Err-clause-sink : goal.returns-in-Err-clause-sink
-returns-in-Err-clause-sink g c = sink_memory _ _ _ _
-
-pub returns-in-Ok-put-clause-sink : goal.returns-in-Ok-put-clause-sink
-returns-in-Ok-put-clause-sink g c =
-    let valid : fault_of (records_of c.fetch.new.into.items) ≡ None = search rules in
-    let same : c.in_ok-table.table ≡ table_of (records_of c.fetch.new.into.items) = search rules in
-    let text : c.deref-2.result.now ≡ table_text c.in_ok-table.table = search rules in
-    let all : length c.templates.result.now ≡ length c.in_ok-table.table = search rules in
-    listed_whole (g.F.Files.held c.args.files.now) _ _ c.args.table.now c.fetch.new.into.items c.deref-2.result.now c.in_ok-table.table _ _ _ all same
-    c.in_ok-fetch.ensures.ok valid text c.in-Ok-put.ensures.ok c.put.ensures.cause.later
-
 pub returns-clause-sink : goal.returns-clause-sink
 returns-clause-sink g c =
     let valid : fault_of (records_of c.fetch.new.into.items) ≡ None = search rules in
     let same : c.in_ok-table.table ≡ table_of (records_of c.fetch.new.into.items) = search rules in
-    let text : c.deref-2.result.now ≡ table_text c.in_ok-table.table = search rules in
-    listed_cut (g.F.Files.held c.args.files.now) _ _ c.args.table.now c.fetch.new.into.items c.deref-2.result.now c.in_ok-table.table _ _ same
-    c.in_ok-fetch.ensures.ok valid text c.in-Err-put.ensures.err c.put.ensures.cause.later c.in-Err-put.ensures.cause.failed
+    listed_sink (g.F.Files.held c.args.files.now) _ _ c.args.table.now c.fetch.new.into.items c.in_ok-table.table _ _ c.print_table.result same
+    c.in_ok-fetch.ensures.ok valid c.print_table.ensures.finish c.print_table.ensures.whole c.print_table.ensures.cut c.print_table.ensures.nothing
+    c.print_table.ensures.only c.print_table.ensures.count c.print_table.ensures.write_fault

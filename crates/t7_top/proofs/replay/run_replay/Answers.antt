@@ -1,4 +1,4 @@
-use Rattle.std.proofs.Common.{rules, ◌≡◌, None, Err, arith}
+use Rattle.std.proofs.Common.{rules, ◌≡◌, None, Err}
 use Rattle.t7_layout.specs.Faults.{fault_of}
 use Rattle.t7_layout.specs.Tables.{table_of}
 use Rattle.t7_outcome.proofs.Taking.{sink_missed}

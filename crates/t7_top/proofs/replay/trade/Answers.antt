@@ -1,4 +1,4 @@
-use Rattle.std.proofs.Common.{rules, ◌≡◌, None, Err, arith}
+use Rattle.std.proofs.Common.{rules, ◌≡◌, None, Err}
 use Rattle.t7_base.specs.ProductFile.{fault_of as product_fault_of, product_of}
 use Rattle.t7_outcome.proofs.Taking.{sink_missed}
 use Rattle.t7_records.specs.Records.{records_of}
