@@ -1,4 +1,4 @@
-use Rattle.std.proofs.Common.{◌≡◌, ◌≢◌, ap, ◌∙◌, sym}
+use Rattle.std.proofs.Common.{ap, ◌∙◌, sym}
 use Rattle.t7_book.specs.Orders.{shown}
 use Rattle.t7_snapshot.specs.Sending.{CycleState}
 use Rattle.t7_exchange.proofs.OutboxFacts.{cycle_some}
