@@ -1,6 +1,7 @@
 // The responses of a command, stored.
 
-ghost use Rattle.std.specs.Prelude.{◌≡◌, ℕ, ◌+◌, ◌-◌, ◌≤◌, ◌<◌, ◌++◌, ◌∷◌, [], List, None, OnErr, IfOk, MatchResult, true, false, length, Contains, OnOk, vec_capacity, vec_len};
+ghost use Rattle.std.specs.Prelude.{◌≡◌, ℕ, ◌+◌, ◌-◌, ◌≤◌, ◌<◌, ◌++◌, ◌∷◌, [], List, None, true, false, length, Contains};
+ghost use Rattle.std.specs.Prelude.{OnErr, OnOk, IfOk, MatchResult, vec_capacity, vec_len};
 ghost use Rattle.t7_orders.specs.Answers.{Stored, numbered};
 ghost use Rattle.t7_recover.specs.Shelves.{KeepsAll, sessions_of, spare_of};
 ghost use Rattle.t7_recover.specs.Ranges.{is_bad_range, range_of};
@@ -69,7 +70,8 @@ fn make_room(
     ensures accepted { accepted.new.items ≡ accepted.old.items }
     ensures answers { answers.new.items ≡ [] }
     ensures fresh { fresh.new.items ≡ [] }
-    ensures room { OnOk result (HasRoom store.new sessions.now (vec_capacity accepted.new - vec_len accepted.new) (vec_capacity answers.new) (vec_capacity fresh.new) n) }
+    ensures room { OnOk result (HasRoom store.new sessions.now (vec_capacity accepted.new - vec_len accepted.new) (vec_capacity answers.new)
+        (vec_capacity fresh.new) n) }
 {
     answers.clear();
     fresh.clear();
@@ -171,7 +173,8 @@ impl Desk {
         upto: u128,
     ) -> Result<&[Kept], BadRange>
         requires { Contains self.now.roster.sessions session }
-        ensures bad { MatchResult result (λ _. is_bad_range (stored_at self.now session) after upto ≡ false) (λ _. is_bad_range (stored_at self.now session) after upto ≡ true) }
+        ensures bad { MatchResult result (λ _. is_bad_range (stored_at self.now session) after upto ≡ false)
+            (λ _. is_bad_range (stored_at self.now session) after upto ≡ true) }
         ensures range { IfOk result (λ range. range.now ≡ range_of (stored_at self.now session) after upto) }
     {
         self.store.range(session, after, upto)

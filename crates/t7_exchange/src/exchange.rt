@@ -1,6 +1,7 @@
 // The exchange.
 
-ghost use Rattle.std.specs.Prelude.{◌≡◌, ◌≢◌, ◌+◌, ◌-◌, ◌<◌, ◌≤◌, ◌++◌, ◌↔◌, [], length, take, drop, min, IsTrue, OnOk, OnErr, IfOk, IfErr, MatchBool, MatchOption, Contains, Err};
+ghost use Rattle.std.specs.Prelude.{◌≡◌, ◌≢◌, ◌+◌, ◌-◌, ◌<◌, ◌≤◌, ◌++◌, ◌↔◌, [], length, take, drop, min, IsTrue, Contains, Err};
+ghost use Rattle.std.specs.Prelude.{OnOk, OnErr, IfOk, IfErr, MatchBool, MatchOption};
 ghost use Rattle.t7_frames.specs.Frames.{front_of, not_yet};
 ghost use Rattle.t7_book.specs.Trace.{AreAccepted};
 ghost use Rattle.t7_orders.specs.Answers.{responses};

@@ -130,7 +130,8 @@ impl<'t> Outbox<'t> {
         out: &mut [u8],
     ) -> Option<Sent>
         requires { 1472 ≤ length out.old }
-        ensures { MatchOption result ((self.old.untold ≡ []) × (self.new ≡ self.old) × (out.new ≡ out.old)) (λ s. Ships table.now product.now self.old self.new out.old out.new s) }
+        ensures { MatchOption result ((self.old.untold ≡ []) × (self.new ≡ self.old) × (out.new ≡ out.old))
+            (λ s. Ships table.now product.now self.old self.new out.old out.new s) }
     {
         let number = self.live + 1;
         let first = self.next;

@@ -47,7 +47,8 @@ pub(crate) fn log_on(
     requires asked { WasAsked (request.Logon seq heart session) (numbers.get wires.old.held conn) }
     requires free { IfSome (numbers.get wires.old.held conn) (λ h. IsNone h.session) }
     requires number { seq < 4_294_967_295 }
-    ensures serves { OnOk result ((setting : Setting) (accepted : List Command) (h : Held) → setting.listing ≡ product.now → numbers.get wires.old.held conn ≡ Some h
+    ensures serves { OnOk result ((setting : Setting) (accepted : List Command) (h : Held) → setting.listing ≡ product.now
+        → numbers.get wires.old.held conn ≡ Some h
         → Serves setting accepted moment conn h (request.Logon seq heart session) wires.old wires.new) }
     ensures only { HoldOnly product.now.sessions wires.old.held → HoldOnly product.now.sessions wires.new.held }
     ensures err { OnErr result (IsSame wires.old wires.new) }
@@ -76,7 +77,8 @@ pub(crate) fn log_out(
     seq: u32,
 ) -> Result<(), AllocError>
     requires number { seq < 4_294_967_295 }
-    ensures serves { OnOk result ((setting : Setting) (accepted : List Command) (h : Held) → numbers.get wires.old.held conn ≡ Some h → Serves setting accepted moment conn h (request.Logout seq) wires.old wires.new) }
+    ensures serves { OnOk result ((setting : Setting) (accepted : List Command) (h : Held) → numbers.get wires.old.held conn ≡ Some h
+        → Serves setting accepted moment conn h (request.Logout seq) wires.old wires.new) }
     ensures only { (sessions : List ℕ) → HoldOnly sessions wires.old.held → HoldOnly sessions wires.new.held }
     ensures err { OnErr result (IsSame wires.old wires.new) }
 {
@@ -205,7 +207,8 @@ pub(crate) fn order(
     requires known { Contains product.now.sessions session }
     requires seq { request_number request.now ≡ Some seq }
     requires askable { IsAskable request.now }
-    ensures ok { OnOk result ((layouts : List Layout) → Orders layouts product.now moment conn request.now desk.old desk.new wires.old wires.new outbox.old outbox.new) }
+    ensures ok { OnOk result ((layouts : List Layout) →
+        Orders layouts product.now moment conn request.now desk.old desk.new wires.old wires.new outbox.old outbox.new) }
     ensures err { OnErr result (Keeps desk.old desk.new wires.old wires.new outbox.old outbox.new) }
 {
     let _nanoseconds = moment.get();
@@ -242,7 +245,8 @@ pub(crate) fn answer(
     requires rises { numbers.Rises wires.old.held }
     requires may { MayAsk request.now (numbers.get wires.old.held conn) }
     requires askable { IsAskable request.now }
-    ensures ok { OnOk result ((layouts : List Layout) → Orders layouts product.now moment conn request.now desk.old desk.new wires.old wires.new outbox.old outbox.new) }
+    ensures ok { OnOk result ((layouts : List Layout) →
+        Orders layouts product.now moment conn request.now desk.old desk.new wires.old wires.new outbox.old outbox.new) }
     ensures err { OnErr result (Keeps desk.old desk.new wires.old wires.new outbox.old outbox.new) }
 {
     responses_may_be_written();

@@ -1,6 +1,7 @@
 // Connections, and the replies that wait for them.
 
-ghost use Rattle.std.specs.Prelude.{◌≡◌, ℕ, ◌+◌, ◌-◌, ◌<◌, ◌≤◌, ◌++◌, ◌∷◌, ◌^◌, [], List, length, map, min, max, drop, slice_get, Some, IsNone, IsSome, IfSome, OnOk, OnErr, option_map};
+ghost use Rattle.std.specs.Prelude.{◌≡◌, ℕ, ◌+◌, ◌-◌, ◌<◌, ◌≤◌, ◌++◌, ◌∷◌, ◌^◌, [], List, length, map, min, max, drop, slice_get};
+ghost use Rattle.std.specs.Prelude.{Some, IsNone, IsSome, IfSome, OnOk, OnErr, option_map};
 ghost use Rattle.std.specs.List.{All};
 ghost use Rattle.std.specs.Option.{option_and_then, option_map_or};
 ghost use Rattle.std.specs.VecDeque.{deque_capacity, deque_len};
@@ -288,8 +289,10 @@ impl Wires {
 
     /// Each open connection does what the heartbeat rule wants, by rising number. After an error nothing has changed but the room.
     pub(crate) fn tick(&mut self, alloc: Global, moment: Moment) -> Result<(), AllocError>
-        ensures acts { OnOk result ((accepted : List Command) → Acts accepted self.old self.new (tick_each moment (inputs_of self.old.held) (numbers.keys (inputs_of self.old.held)))) }
-        ensures inputs { OnOk result ((accepted : List Command) → inputs_of self.new.held ≡ settled_each (numbers.keys (inputs_of self.old.held)) (inputs_of self.old.held) (core_of accepted self.new.held)) }
+        ensures acts { OnOk result ((accepted : List Command) →
+            Acts accepted self.old self.new (tick_each moment (inputs_of self.old.held) (numbers.keys (inputs_of self.old.held)))) }
+        ensures inputs { OnOk result ((accepted : List Command) →
+            inputs_of self.new.held ≡ settled_each (numbers.keys (inputs_of self.old.held)) (inputs_of self.old.held) (core_of accepted self.new.held)) }
         ensures held { OnErr result (self.new.held ≡ self.old.held) }
         ensures waiting { OnErr result (self.new.waiting ≡ self.old.waiting) }
         ensures only { (sessions : List ℕ) → HoldOnly sessions self.old.held → HoldOnly sessions self.new.held }
