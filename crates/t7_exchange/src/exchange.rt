@@ -14,7 +14,7 @@ ghost use Rattle.t7_entry.specs.Days.{day_after, last_of, new_day};
 ghost use Rattle.t7_entry.specs.Stalls.{IsOpen, IsShut, Stalls, front_treated, taken, untreated_of};
 ghost use Rattle.t7_feed.specs.Arrivals.{AreTerms};
 ghost use Rattle.t7_feed.specs.Sending.{AreRanged};
-ghost use Rattle.t7_exchange.specs.Handed.{first_handed, first_written};
+ghost use Rattle.t7_exchange.specs.Handed.{first_handed, first_refused_for, first_written};
 ghost use Rattle.t7_exchange.specs.Outbox.{IsPut};
 ghost use Rattle.t7_exchange.specs.Sending.{IsSent, IsSnapped};
 
@@ -30,7 +30,7 @@ use std::marker::Model;
 use t7_base::{Moment, Product, SecurityId, SessionId};
 use t7_book::{Book, Command};
 use t7_entry::last_markets_are_books;
-use t7_eti::{Kept, ordinary_responses_may_be_written, write_response};
+use t7_eti::{Kept, Reason, ordinary_responses_may_be_written, write_response};
 use t7_layout::Table;
 use t7_orders::MOST_COMMANDS;
 use t7_session::Step;
@@ -199,6 +199,13 @@ impl<'t> Exchange<'t> {
         }
         self.wires.deliver(moment, self.desk.fresh());
         Ok(())
+    }
+
+    /// Why a request is refused, where the first reply that waits is a Reject.
+    pub fn next_refusal(&self) -> Option<Reason>
+        ensures { result ≡ first_refused_for self.now.waiting }
+    {
+        self.wires.next_refusal()
     }
 
     /// The first reply that waits is taken off: a frame, which is written to the front of `out`, or a close. None exactly where

@@ -16,6 +16,7 @@ ghost use Rattle.t7_frames.specs.Frames.{front_of, not_yet};
 ghost use Rattle.t7_entry.specs.ByNumber as numbers;
 ghost use Rattle.t7_entry.specs.Treatment.{close, deliver, holder, refuse, send, send_again};
 ghost use Rattle.t7_entry.specs.Events.{settled_each, tick_each};
+ghost use Rattle.t7_exchange.specs.Handed.{first_refused_for};
 ghost use Rattle.t7_exchange.specs.Maps.{HoldOnly, Stays, changed, fed, inputs_of};
 ghost use Rattle.t7_exchange.specs.Sayable.{CanBeSaid, IsSayable};
 ghost use Rattle.t7_exchange.specs.Wires.{Acts, core_of, delivered, reply_of, reply_with, ticked};
@@ -152,6 +153,21 @@ impl Wires {
         ensures held { self.new.held ≡ self.old.held }
     {
         self.waiting.pop_front()
+    }
+
+    /// Why a request is refused, where the first reply that waits is a Reject.
+    pub(crate) fn next_refusal(&self) -> Option<Reason>
+        ensures { result ≡ first_refused_for self.now.waiting }
+    {
+        match self.waiting.front() {
+            Some(
+                Waiting::Sends {
+                    response: Response::Reject { reason, .. },
+                    ..
+                },
+            ) => Some(*reason),
+            _ => None,
+        }
     }
 
     /// Room for so many more replies. After an error nothing else has changed.
