@@ -34,7 +34,6 @@ pub fn is_left(item: &LinkItem, start: usize) -> bool
 }
 
 /// The first item of which anything is left.
-#[tactic(auto, using(crate::proofs::Items::pass))]
 pub fn first_left(items: &[LinkItem], from: usize, taken: usize) -> (usize, usize)
     requires { from ≤ length items.now }
     ensures within { result.0 ≤ length items.now }

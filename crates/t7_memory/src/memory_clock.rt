@@ -64,7 +64,6 @@ impl MemoryClock {
 impl Clock for MemoryClock {
     ghost given = { λ s. s.given };
 
-    #[tactic(auto, using(crate::proofs::Clocks::given_more, crate::proofs::Telling::more_grew))]
     fn now(&mut self) -> Moment
         ensures given { Grew self.old.given self.new.given (λ added. added ≡ result ∷ []) }
         ensures gives { result ≡ moment_at self.old.moments self.old.calls }

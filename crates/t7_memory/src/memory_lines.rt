@@ -92,7 +92,6 @@ impl MemoryLines {
     }
 
     // Takes the first of the receipts that are left, and notes it.
-    #[tactic(auto, using(crate::proofs::Receipts::receipts_more, crate::proofs::Receipts::left_more))]
     fn take_first(&mut self, into: &mut [u8]) -> Received
         requires { 1 ≤ self.old.room.calls }
         ensures receives { Receives (slice_get self.old.left 0) result into.new }
@@ -100,7 +99,11 @@ impl MemoryLines {
         ensures no_fault { result ≢ Received.Failed }
         ensures taken { self.new.taken ≡ self.old.taken ++ line_taken result into.new }
         ensures left { self.new.left ≡ drop 1 self.old.left }
-        ensures same { self.new ≡ record self.old { taken = self.new.taken; left = self.new.left; room = record self.old.room { calls = self.old.room.calls - 1 } } }
+        ensures same { self.new ≡ record self.old {
+          taken = self.new.taken;
+          left = self.new.left;
+          room = record self.old.room { calls = self.old.room.calls - 1 };
+        } }
     {
         self.room.spend(0);
         let Some(item) = self.items.get(self.counts.len()) else {

@@ -1,5 +1,6 @@
 //! A link in memory: its events are given, and chosen calls fail.
-ghost use Rattle.std.specs.Prelude.{◌≡◌, ◌≢◌, ◌+◌, ◌-◌, ◌^◌, ◌≤◌, ◌⊎◌, [], ◌∷◌, ◌++◌, List, ℕ, length, OnOk, OnErr, IfOk, is_ok, true, false, None, Some};
+ghost use Rattle.std.specs.Prelude.{◌≡◌, ◌≢◌, ◌+◌, ◌-◌, ◌^◌, ◌≤◌, ◌⊎◌, ◌∷◌, ◌++◌};
+ghost use Rattle.std.specs.Prelude.{[], List, ℕ, length, OnOk, OnErr, IfOk, is_ok, true, false, None, Some};
 ghost use Rattle.std.specs.Option.{option_map};
 ghost use Rattle.std.specs.Result.{result_ok};
 ghost use Rattle.t7_base.specs.Outside.{Rose, HasCause, Grew, Begins};
@@ -110,7 +111,11 @@ impl MemoryLink {
         ensures taken { self.new.events ≡ self.old.events ++ link_taken result into.new }
         ensures piece { IsPiece result (length into.old) }
         ensures no_fault { result ≢ LinkEvent.Failed }
-        ensures same { self.new ≡ record self.old { events = self.new.events; left = self.new.left; room = record self.old.room { calls = self.old.room.calls - 1 } } }
+        ensures same { self.new ≡ record self.old {
+          events = self.new.events;
+          left = self.new.left;
+          room = record self.old.room { calls = self.old.room.calls - 1 };
+        } }
     {
         let (at, start) = first_left(&self.items, self.at, self.start);
         self.room.spend(0);

@@ -53,7 +53,6 @@ impl<K: Copy + Drop> Notes<K> {
     }
 
     /// Notes one call more, for which there is room. After `forget` it uses that room all the same.
-    #[tactic(auto, using(crate::proofs::Noting::told_more))]
     pub fn note(&mut self, kind: K, piece: &[u8])
         requires calls { 1 ≤ self.old.calls }
         requires bytes { length piece.now ≤ self.old.bytes }
@@ -92,7 +91,6 @@ impl<K: Copy + Drop> Notes<K> {
 }
 
 // The bytes of a note.
-#[tactic(auto, using(std::proofs::lemmas::List::Sums::sum_by_more_le))]
 fn piece_at<'a>(lengths: &[usize], bytes: &'a [u8], at: usize) -> &'a [u8]
     requires inside { at < length lengths.now }
     requires covers { sum lengths.now ≤ length bytes.now }
@@ -105,7 +103,6 @@ fn piece_at<'a>(lengths: &[usize], bytes: &'a [u8], at: usize) -> &'a [u8]
 }
 
 // Where a note's bytes begin.
-#[tactic(auto, using(std::proofs::lemmas::List::Sums::sum_by_more_le))]
 fn start_of(lengths: &[usize], at: usize) -> usize
     requires inside { at ≤ length lengths.now }
     requires bound { sum lengths.now < 2 ^ 64 }

@@ -78,7 +78,8 @@ pub trait Link {
     /// Sends all the bytes on this connection; where it fails, a prefix of them. To a peer that has gone it doesn't fail.
     fn send(&mut self, conn: u32, bytes: &[u8]) -> Result<(), Failed>
         ensures ok { OnOk result (Grew (sent self.old) (sent self.new) (λ added. added ≡ Gave conn bytes.now ∷ [])) }
-        ensures err { OnErr result (Grew (sent self.old) (sent self.new) (λ added. (front : List ℕ) × Begins front bytes.now × (added ≡ Gave conn front ∷ []))) }
+        ensures err { OnErr result (Grew (sent self.old) (sent self.new) (λ added.
+            (front : List ℕ) × Begins front bytes.now × (added ≡ Gave conn front ∷ []))) }
         ensures asked { asked self.new ≡ asked self.old }
         ensures events { events self.new ≡ events self.old }
         ensures cause { HasCause (faults self.old) (faults self.new) result };

@@ -1,5 +1,6 @@
 //! The real link, over TCP. It tells nothing of what it was asked, took and sent.
-ghost use Rattle.std.specs.Prelude.{◌≡◌, ◌≢◌, ◌+◌, ◌<◌, ◌≤◌, [], ◌∷◌, List, ℕ, length, vec_len, None, IfOk, IfSome, OnOk, OnErr};
+ghost use Rattle.std.specs.Prelude.{◌≡◌, ◌≢◌, ◌+◌, ◌<◌, ◌≤◌, ◌∷◌};
+ghost use Rattle.std.specs.Prelude.{[], List, ℕ, length, vec_len, None, IfOk, IfSome, OnOk, OnErr};
 ghost use Rattle.t7_base.specs.Outside.{Begins, Grew, HasCause, Rose};
 ghost use Rattle.t7_net.specs.Links.{Gave, IsPiece, LinkSent, Numbers};
 
