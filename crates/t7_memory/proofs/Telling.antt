@@ -1,5 +1,5 @@
 -- What is told grows with each call.
-use Rattle.std.proofs.Common.{◌≡◌, List, [], ◌∷◌, ◌++◌, ℕ, Option, Some, None, map, refl, ap}
+use Rattle.std.proofs.Common.{◌≡◌, List, [], ◌∷◌, ℕ, Option, Some, None, refl, ap}
 use Rattle.std.proofs.lemmas.List.{map-append}
 use Rattle.t7_base.specs.Outside.{Grew}
 use Rattle.t7_base.specs.declared.ids.Feed.{Feed}

@@ -1,5 +1,5 @@
 -- Calls that were noted with their bytes, and what they say.
-use Rattle.std.specs.Prelude.{◌≡◌, ℕ, List, [], ◌∷◌, ◌++◌, Option, None, Some, map, take, drop, slice_get}
+use Rattle.std.specs.Prelude.{ℕ, List, [], ◌∷◌, ◌++◌, Option, None, Some, map, take, drop, slice_get}
 use Rattle.std.specs.Option.{option_map, option_and_then}
 use Rattle.t7_base.specs.declared.ids.Feed.{Feed}
 use Rattle.t7_memory.specs.declared.kinds.Asking.{Asking}
