@@ -15,6 +15,7 @@ pub fn order_line(order: &Resting, out: &mut [u8]) -> usize
     requires { 256 ≤ length out.old }
     ensures length { result ≡ length (spec.order_line order.now) }
     ensures bytes { out.new ≡ spec.order_line order.now ++ drop result out.old }
+    ensures short { result ≤ 100 }
 {
     put(&order_text(order), out)
 }
@@ -33,6 +34,7 @@ pub fn misfit_words(why: &Misfit, out: &mut [u8]) -> usize
     requires { 256 ≤ length out.old }
     ensures length { result ≡ length (spec.misfit_words why.now) }
     ensures bytes { out.new ≡ spec.misfit_words why.now ++ drop result out.old }
+    ensures short { result ≤ 100 }
 {
     put(&misfit_text(why), out)
 }
@@ -50,7 +52,8 @@ fn put(line: &Line, out: &mut [u8]) -> usize
 
 #[tactic(auto, unfolding(crate::specs::Lines::order_line))]
 fn order_text(order: &Resting) -> Line
-    ensures { result ≡ spec.order_line order.now }
+    ensures value { result ≡ spec.order_line order.now }
+    ensures short { length result ≤ 100 }
 {
     let mut line = Line::new();
     line.push_signed(order.security.0);
@@ -189,7 +192,8 @@ fn push_trade(line: &mut Line, qty: Qty, price: Price)
 
 #[tactic(auto, unfolding(crate::specs::Lines::misfit_words))]
 fn misfit_text(why: &Misfit) -> Line
-    ensures { result ≡ spec.misfit_words why.now }
+    ensures value { result ≡ spec.misfit_words why.now }
+    ensures short { length result ≤ 100 }
 {
     let mut line = Line::new();
     match why {

@@ -1,0 +1,7 @@
+pub mod Asking
+pub mod Ending
+pub mod Growing
+pub mod Keeping
+pub mod Printed
+pub mod Stepping
+pub mod Watching
