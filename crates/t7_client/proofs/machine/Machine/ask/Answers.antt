@@ -1,0 +1,15 @@
+use Rattle.std.proofs.Common.{rules, arith}
+use Rattle.t7_fields.specs.Writing.{IsOrdinary}
+use Rattle.t7_eti.specs.Requests.{request_client, request_number}
+use Rattle.t7_eti.specs.Saying.{request_fields}
+use Rattle.t7_client.proofs.machine.Machine.ask.Goals as goal
+
+pub push_request-requires-clause-ordinary : goal.push_request-requires-clause-ordinary
+unfolding request_fields IsOrdinary
+push_request-requires-clause-ordinary c =
+    let room = rw (← c.self.view_is) at c.requires in (omega arith, (tt, (tt, tt)))
+
+pub push_request-requires-clause-askable : goal.push_request-requires-clause-askable
+unfolding request_number request_client
+push_request-requires-clause-askable c =
+    let room = rw (← c.self.view_is) at c.requires in record { number = omega arith; client = tt }

@@ -1,0 +1,2 @@
+// The calls of a client.
+pub struct Client {}
