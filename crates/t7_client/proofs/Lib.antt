@@ -1,2 +1,6 @@
 pub mod Sizes
 pub mod Reading
+pub mod Treating
+pub mod Results
+pub mod Continuing
+pub mod FrontFacts

@@ -1,9 +1,13 @@
 -- What the treatment of one frame leaves.
-use Rattle.std.specs.Prelude.{◌≡◌, ℕ, ◌<◌, List, Bool, true, false, length}
-use Rattle.t7_frames.specs.Frames.{front_of, not_yet}
+use Rattle.std.specs.Prelude.{◌≡◌, ℕ, ◌+◌, ◌<◌, List, Bool, true, false, length, drop}
+use Rattle.t7_frames.specs.Frames.{body_len, front_of, not_yet}
 use Rattle.t7_client.specs.Recovering.{Recovery}
 use Rattle.t7_client.specs.Hearing.{Continues}
 use Rattle.t7_client.specs.Sound.{IsSound}
+
+-- a frame of so many bytes is taken off the untreated bytes
+abbrev pub taken : Recovery → ℕ → Recovery
+taken client count = record client { rest = drop (body_len client.rest) client.rest; treated = client.treated + count }
 
 -- The front frame is treated: whatever comes behind it is heard as before.
 pub record Treats (old new : Recovery) : Type 0 where

@@ -1,10 +1,12 @@
 // A client as a machine over the frames that come down.
 
-ghost use Rattle.std.specs.Prelude.{◌≡◌, ℕ, List, ◌+◌, ◌*◌, ◌^◌, ◌<◌, ◌≤◌, ◌++◌, [], true, IfOk, IfErr, OnOk, OnErr, Ok, Err, length, min, take, drop, ◌⊎◌};
+ghost use Rattle.std.specs.Prelude.{◌≡◌, ℕ, List, None, ◌+◌, ◌-◌, ◌*◌, ◌^◌, ◌<◌, ◌≤◌, ◌++◌, [], true, IfOk, IfErr, OnOk, OnErr, Ok, Err, length, min, take, drop, ◌⊎◌};
+ghost use Rattle.t7_frames.specs.Frames.{IsWhole, front_of, not_yet};
 ghost use Rattle.t7_eti.specs.Requests.{IsAskable};
 ghost use Rattle.t7_eti.specs.Saying.{EachOrdinary, request_fields};
-ghost use Rattle.t7_client.specs.Hearing.{StopsBy, heard};
-ghost use Rattle.t7_client.specs.Going.{Goes};
+ghost use Rattle.t7_client.specs.Hearing.{Continues, StopsBy, heard};
+ghost use Rattle.t7_client.specs.Going.{Goes, taken};
+ghost use Rattle.t7_client.specs.Told.{IsLong, told_at};
 ghost use Rattle.t7_client.specs.Inside.{recovery_of};
 ghost use Rattle.t7_client.specs.Recovering.{after, asking, asking_again, cut, dialed, gathering, answering, is_due, is_recovered, holds_known, making, new_recovery};
 ghost use Rattle.t7_client.specs.Sound.{IsSound};
@@ -16,7 +18,7 @@ use std::alloc::{AllocError, Global};
 use std::marker::Model;
 use t7_base::SessionId;
 use t7_eti::{Kept, Reason, Request, Response};
-use t7_frames::FrameBuf;
+use t7_frames::{FrameBuf, a_front_begins_the_split};
 use t7_layout::Table;
 use t7_recover::{Gathered, Offered};
 
@@ -221,6 +223,27 @@ impl<'t> Machine<'t> {
         }
     }
 
+    // What the untreated bytes say at their front.
+    fn look(&mut self) -> Told
+        requires { self.old.dialed ≡ true }
+        ensures value { result ≡ told_at self.old.layouts (front_of self.old.rest) }
+        ensures kept { self.new ≡ self.old }
+        ensures long { IsLong result }
+    {
+        first_told(self.table, &mut self.frames)
+    }
+
+    // Takes a treated frame of so many bytes off.
+    fn take_off(&mut self, count: usize)
+        requires dialed { self.old.dialed ≡ true }
+        requires whole { IsWhole (front_of self.old.rest) }
+        requires few { self.old.treated + count ≤ 2 ^ 35 }
+        ensures { self.new ≡ taken self.old count }
+    {
+        self.frames.skip();
+        self.treated += count;
+    }
+
     // Treats the frame at the front. Whether there is one.
     fn step(&mut self) -> Result<bool, ClientFault>
         requires dialed { self.old.dialed ≡ true }
@@ -229,7 +252,8 @@ impl<'t> Machine<'t> {
         ensures stops { IfErr result (λ fault. (more : List ℕ) → StopsBy self.old more fault (cut self.new)) }
         ensures session { self.new.session ≡ self.old.session }
     {
-        match first_told(self.table, &mut self.frames) {
+        a_front_begins_the_split();
+        match self.look() {
             Told::Nothing => Ok(false),
             Told::Misfit => Err(ClientFault::Misfit {
                 place: self.treated,
@@ -238,11 +262,128 @@ impl<'t> Machine<'t> {
                 if self.treat(said).is_err() {
                     return Err(ClientFault::Memory);
                 }
-                self.frames.skip();
-                self.treated += count;
+                self.take_off(count);
                 Ok(true)
             }
         }
+    }
+
+    // Treats the frames that are whole.
+    fn treat_all(&mut self) -> Result<(), ClientFault>
+        requires dialed { self.old.dialed ≡ true }
+        requires sound { IsSound self.old }
+        ensures waits { OnOk result (front_of self.new.rest ≡ not_yet) }
+        ensures sound { OnOk result (IsSound self.new) }
+        ensures goes { OnOk result ((more : List ℕ) → Continues self.old more self.new more) }
+        ensures stops { IfErr result (λ fault. (more : List ℕ) → StopsBy self.old more fault (cut self.new)) }
+        ensures session { self.new.session ≡ self.old.session }
+    {
+        while self.step()? {}
+        Ok(())
+    }
+
+    // Takes the longest prefix of the piece that there is room for, and answers its length.
+    fn feed(&mut self, piece: &[u8]) -> usize
+        requires { self.old.dialed ≡ true }
+        ensures count { result ≡ min (length piece.now) (8192 - length self.old.rest) }
+        ensures fed { self.new ≡ record self.old { rest = self.old.rest ++ take result piece.now } }
+    {
+        self.frames.feed(piece)
+    }
+
+    // Takes the bytes that came down, and treats each frame that is whole.
+    fn hear(&mut self, bytes: &[u8]) -> Result<(), ClientFault>
+        requires dialed { self.old.dialed ≡ true }
+        requires sound { IsSound self.old }
+        requires few { self.old.treated + length self.old.rest + length bytes.now ≤ 2 ^ 35 }
+        ensures ok { OnOk result (heard self.old bytes.now ≡ record { client = self.new; misfit = None }) }
+        ensures sound { OnOk result (IsSound self.new) }
+        ensures stops { IfErr result (λ fault. StopsBy self.old bytes.now fault (cut self.new)) }
+        ensures session { self.new.session ≡ self.old.session }
+    {
+        a_front_begins_the_split();
+        let mut left = bytes;
+        'pieces: loop {
+            self.treat_all()?;
+            if left.is_empty() {
+                return Ok(());
+            }
+            let count = self.feed(left);
+            left = &left[count..];
+        }
+    }
+
+    /// Takes the bytes that came down. After a fault the connection is cut.
+    pub(crate) fn down(&mut self, bytes: &[u8]) -> Result<(), ClientFault>
+        requires dialed { self.old.dialed ≡ true }
+        requires sound { IsSound self.old }
+        requires few { self.old.treated + length self.old.rest + length bytes.now ≤ 2 ^ 35 }
+        ensures ok { OnOk result (heard self.old bytes.now ≡ record { client = self.new; misfit = None }) }
+        ensures stops { IfErr result (λ fault. StopsBy self.old bytes.now fault self.new) }
+        ensures sound { IsSound self.new }
+    {
+        let heard = self.hear(bytes);
+        if heard.is_err() {
+            self.cut();
+        }
+        heard
+    }
+
+    /// Hands out the next bytes that wait to be sent, as many as fit, and answers how many.
+    pub(crate) fn up(&mut self, out: &mut [u8]) -> usize
+        ensures count { result ≡ min (length self.old.queue) (length out.old) }
+        ensures bytes { out.new ≡ take result self.old.queue ++ drop result out.old }
+        ensures left { self.new ≡ record self.old { queue = drop result self.old.queue } }
+    {
+        let count = self.queue.len().min(out.len());
+        out[..count].copy_from_slice(&self.queue[..count]);
+        self.queue.drain(..count);
+        count
+    }
+
+    /// The number of the next request.
+    pub(crate) fn next_number(&self) -> u32
+        ensures { result ≡ self.now.next }
+    {
+        self.next
+    }
+
+    /// How many bytes wait to be sent.
+    pub(crate) fn pending(&self) -> usize
+        ensures { result ≡ length self.now.queue }
+    {
+        self.queue.len()
+    }
+
+    /// The responses that were gathered.
+    pub(crate) fn responses(&self) -> &[Kept]
+        ensures { result.now ≡ self.now.gathered }
+    {
+        self.gathered.list()
+    }
+
+    /// Whether as many responses are gathered as the last answer says are kept.
+    pub(crate) fn is_recovered(&self) -> bool
+        ensures { result ≡ is_recovered self.now }
+    {
+        match self.answer {
+            Some(answer) => answer.known <= self.gathered.list().len() as u128,
+            None => false,
+        }
+    }
+
+    /// Whether the session is logged on.
+    pub(crate) fn logged_on(&self) -> bool
+        ensures { result ≡ self.now.logged_on }
+    {
+        self.logged_on
+    }
+
+    /// The reason of the last Reject.
+    pub(crate) fn rejected(&self) -> Option<Reason>
+        ensures { result ≡ self.now.rejected }
+    {
+        self.rejected
     }
 }
 
