@@ -4,3 +4,4 @@ pub mod Treating
 pub mod Results
 pub mod Continuing
 pub mod FrontFacts
+pub mod Numbers
