@@ -6,19 +6,25 @@ use Rattle.t7_frames.specs.Frames.{front_of, not_yet}
 use Rattle.t7_frames.specs.Split.{Split, split_of}
 use Rattle.t7_client.specs.declared.fault.ClientFault.{ClientFault}
 use Rattle.t7_client.specs.declared.fault.ClientFault.TheVariants.{Misfit, Memory}
-use Rattle.t7_client.specs.Hearing.{Continues, Heard, StopsBy, StopsWithin, after_first, heard, heard_behind, heard_by, split_with}
+use Rattle.t7_client.specs.Hearing.{Continues, Heard, StopsBy, Stays, StopsWithin, after_first, heard, heard_behind, heard_by, split_with}
 use Rattle.t7_client.specs.Recovering.{Recovery, cut}
 use Rattle.t7_client.specs.Sound.{IsSound}
 
+-- nothing changes
+stays_itself : (client : Recovery) → Stays client client
+stays_itself client = record { layouts = refl; session = refl; dialed = refl; made = refl }
+
+stays_on : (a b c : Recovery) → Stays a b → Stays b c → Stays a c
+stays_on a b c ab bc = record { layouts = bc.layouts ∙ ab.layouts; session = bc.session ∙ ab.session; dialed = bc.dialed ∙ ab.dialed; made = bc.made ∙ ab.made }
+
 pub continues_itself : (client : Recovery) (bytes : List ℕ) → Continues client bytes client bytes
-continues_itself client bytes = record { heard = refl; stops = λ end stops. stops; dialed = refl; session = refl; count = refl }
+continues_itself client bytes = record { heard = refl; stops = λ end stops. stops; stays = stays_itself client; count = refl }
 
 pub continues_on : (a b c : Recovery) (x y z : List ℕ) → Continues a x b y → Continues b y c z → Continues a x c z
 continues_on a b c x y z ab bc = record {
   heard = ab.heard ∙ bc.heard;
   stops = λ end stops. ab.stops end (bc.stops end stops);
-  dialed = bc.dialed ∙ ab.dialed;
-  session = bc.session ∙ ab.session;
+  stays = stays_on a b c ab.stays bc.stays;
   count = bc.count ∙ ab.count;
 }
 
@@ -35,15 +41,14 @@ fed client count left = record client { rest = client.rest ++ take count left }
 pub feeds : (client : Recovery) (count : ℕ) (left : List ℕ) → Continues client left (fed client count left) (drop count left)
 feeds client count left =
     let split : client.rest ++ left ≡ (client.rest ++ take count left) ++ drop count left =
-      ap (λ (l : List ℕ). client.rest ++ l) (sym (take-append-drop count left)) ∙ sym (append_assoc client.rest (take count left) (drop count left)) in
+    ap (λ (l : List ℕ). client.rest ++ l) (sym (take-append-drop count left)) ∙ sym (append_assoc client.rest (take count left) (drop count left)) in
     let one : length (client.rest ++ take count left) ≡ length client.rest + length (take count left) = length-append client.rest (take count left) in
     let two : length (take count left) + length (drop count left) ≡ length left =
-      sym (length-append (take count left) (drop count left)) ∙ ap length (take-append-drop count left) in
+    sym (length-append (take count left) (drop count left)) ∙ ap length (take-append-drop count left) in
     record {
       heard = ap (λ (l : List ℕ). heard_by (split_of l).rest (split_of l).frames (record client { rest = [] })) split;
       stops = λ end (n, is). (n, is ∙ ap (λ (l : List ℕ). cut (after_first n (split_of l).frames (record client { rest = [] }))) (sym split));
-      dialed = refl;
-      session = refl;
+      stays = record { layouts = refl; session = refl; dialed = refl; made = refl };
       count = omega (arith, one, two);
     }
 
@@ -64,7 +69,7 @@ pub fed_sound : (client : Recovery) (count : ℕ) (left : List ℕ) → IsSound 
 fed_sound client count left sound few =
     let one : length (client.rest ++ take count left) ≡ length client.rest + length (take count left) = length-append client.rest (take count left) in
     let two : length (take count left) + length (drop count left) ≡ length left =
-      sym (length-append (take count left) (drop count left)) ∙ ap length (take-append-drop count left) in
+    sym (length-append (take count left) (drop count left)) ∙ ap length (take-append-drop count left) in
     record { least = sound.least; most = sound.most; numbers = sound.numbers; made = sound.made; few = omega (arith, one, two, few) }
 
 pub no_bytes : (left : List ℕ) → true ≡ (length left == 0) → left ≡ []

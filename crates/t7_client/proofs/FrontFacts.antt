@@ -60,6 +60,7 @@ front_gathering stored client number n what number_is at front = by (number == l
   where
     more : Recovery
     more = record client { gathered = client.gathered ++ what ∷ [] }
+
     by : (b : Bool) → (number == length client.gathered + 1) ≡ b
         → Begins (cond b (asking_again (record client { gathered = cond b (client.gathered ++ what ∷ []) client.gathered }) client.answer) client).gathered stored
     by true is =

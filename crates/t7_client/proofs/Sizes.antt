@@ -45,6 +45,7 @@ named_on from (word ∷ words) (f ∷ fields) to laid found =
     width_is is =
         let e : eqb f.width 4 ≡ true = both_right (bytes_eq word (field_text name.MsgSeqNum) && same_kind f.kind Unsigned) (eqb f.width 4) is in
         grind (arith, nat_tests)
+
     by : (b : Bool) → is_place Eti name.MsgSeqNum word f ≡ b → (is_some (find_field Eti name.MsgSeqNum words fields) ≡ true → from + f.width + 4 ≤ to) → is_some (cond b (Some f) (find_field Eti name.MsgSeqNum words fields)) ≡ true → from + 4 ≤ to
     by true is rest some = let on = laid_on (from + f.width) fields to laid.1 in let w = width_is is in omega (arith, on, w)
     by false is rest some = let on = rest some in omega (arith, on)

@@ -190,7 +190,12 @@ module _ (old : Recovery) (frame : List ℕ) (said : Response) (more : List ℕ)
       let keeps = after_keeps old said in
       let rest = ap length rest_is in
       let treated = keeps.treated in
-      record { heard = heard_on; stops = stops_on; dialed = keeps.dialed; session = keeps.session; count = omega (arith, rest, count, treated) }
+      record {
+        heard = heard_on;
+        stops = stops_on;
+        stays = record { layouts = keeps.layouts; session = keeps.session; dialed = keeps.dialed; made = keeps.made };
+        count = omega (arith, rest, count, treated);
+      }
 
   -- where memory is wanting in between, the frame counts as treated or not
   stops_there : (end : Recovery) → (cut end ≡ cut old) ⊎ (cut end ≡ cut (after old said)) → StopsWithin old more (cut end)

@@ -74,10 +74,16 @@ abbrev pub StopsBy : Recovery → List ℕ → ClientFault → Recovery → Type
 StopsBy old bytes (Misfit place) new = ((heard old bytes).misfit ≡ Some place) × (new ≡ cut (heard old bytes).client)
 StopsBy old bytes Memory new = StopsWithin old bytes new
 
+-- what responses leave as it is
+pub record Stays (old new : Recovery) : Type 0 where
+  pub layouts : new.layouts ≡ old.layouts
+  pub session : new.session ≡ old.session
+  pub dialed : new.dialed ≡ old.dialed
+  pub made : new.made ≡ old.made
+
 -- The one client and the bytes that come to it leave and stop what the other does with other bytes.
 pub record Continues (old : Recovery) (bytes : List ℕ) (new : Recovery) (left : List ℕ) : Type 0 where
   pub heard : heard old bytes ≡ heard new left
   pub stops : (end : Recovery) → StopsWithin new left end → StopsWithin old bytes end
-  pub dialed : new.dialed ≡ old.dialed
-  pub session : new.session ≡ old.session
+  pub stays : Stays old new
   pub count : new.treated + length new.rest + length left ≡ old.treated + length old.rest + length bytes

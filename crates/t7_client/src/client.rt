@@ -3,7 +3,7 @@
 ghost use Rattle.std.specs.Prelude.{◌≡◌, ℕ, ◌+◌, ◌^◌, ◌<◌, ◌≤◌, ◌++◌, ◌≤ℤ◌, pos, true, None, IfOk, IfErr, OnOk, OnErr, length, min, take, drop};
 ghost use Rattle.t7_eti.specs.declared.request.Request.TheVariants as request;
 ghost use Rattle.t7_eti.specs.Saying.{side_number};
-ghost use Rattle.t7_client.specs.Hearing.{StopsBy, heard};
+ghost use Rattle.t7_client.specs.Hearing.{Stays, StopsBy, heard};
 ghost use Rattle.t7_client.specs.Recovering.{cut, dialed, is_recovered, making, new_recovery};
 
 use crate::fault::ClientFault;
@@ -148,6 +148,8 @@ impl<'t> Client<'t> {
         requires dialed { self.old.dialed ≡ true }
         requires few { self.old.treated + length self.old.rest + length bytes.now ≤ 2 ^ 35 }
         ensures ok { OnOk result (heard self.old bytes.now ≡ record { client = self.new; misfit = None }) }
+        ensures stays { OnOk result (Stays self.old self.new) }
+        ensures count { OnOk result (self.new.treated + length self.new.rest ≡ self.old.treated + length self.old.rest + length bytes.now) }
         ensures stops { IfErr result (λ fault. StopsBy self.old bytes.now fault self.new) }
     {
         self.machine.down(bytes)

@@ -4,7 +4,7 @@ ghost use Rattle.std.specs.Prelude.{◌≡◌, ℕ, List, None, ◌+◌, ◌-◌
 ghost use Rattle.t7_frames.specs.Frames.{IsWhole, front_of, not_yet};
 ghost use Rattle.t7_eti.specs.Requests.{IsAskable};
 ghost use Rattle.t7_eti.specs.Saying.{EachOrdinary, request_fields};
-ghost use Rattle.t7_client.specs.Hearing.{Continues, StopsBy, heard};
+ghost use Rattle.t7_client.specs.Hearing.{Continues, Stays, StopsBy, heard};
 ghost use Rattle.t7_client.specs.Going.{Goes, taken};
 ghost use Rattle.t7_client.specs.Told.{IsLong, told_at};
 ghost use Rattle.t7_client.specs.Inside.{recovery_of};
@@ -297,6 +297,8 @@ impl<'t> Machine<'t> {
         requires sound { IsSound self.old }
         requires few { self.old.treated + length self.old.rest + length bytes.now ≤ 2 ^ 35 }
         ensures ok { OnOk result (heard self.old bytes.now ≡ record { client = self.new; misfit = None }) }
+        ensures stays { OnOk result (Stays self.old self.new) }
+        ensures count { OnOk result (self.new.treated + length self.new.rest ≡ self.old.treated + length self.old.rest + length bytes.now) }
         ensures sound { OnOk result (IsSound self.new) }
         ensures stops { IfErr result (λ fault. StopsBy self.old bytes.now fault (cut self.new)) }
         ensures session { self.new.session ≡ self.old.session }
@@ -319,6 +321,8 @@ impl<'t> Machine<'t> {
         requires sound { IsSound self.old }
         requires few { self.old.treated + length self.old.rest + length bytes.now ≤ 2 ^ 35 }
         ensures ok { OnOk result (heard self.old bytes.now ≡ record { client = self.new; misfit = None }) }
+        ensures stays { OnOk result (Stays self.old self.new) }
+        ensures count { OnOk result (self.new.treated + length self.new.rest ≡ self.old.treated + length self.old.rest + length bytes.now) }
         ensures stops { IfErr result (λ fault. StopsBy self.old bytes.now fault self.new) }
         ensures sound { IsSound self.new }
     {

@@ -40,7 +40,7 @@ pieces-preserved c =
     record {
       sound = subst A (sym is) (fed_sound treated count left c.in_ok-treat_all.ensures.sound few);
       goes = subst C (sym is) (subst B (sym tail) on);
-      dialed = ap (λ (r : Recovery). r.dialed) is ∙ goes.dialed ∙ c.pieces.invariant.dialed;
-      session = ap (λ (r : Recovery). r.session) is ∙ goes.session ∙ c.pieces.invariant.session;
+      dialed = ap (λ (r : Recovery). r.dialed) is ∙ goes.stays.dialed ∙ c.pieces.invariant.dialed;
+      session = ap (λ (r : Recovery). r.session) is ∙ goes.stays.session ∙ c.pieces.invariant.session;
       few = subst E (sym is) (subst D (sym tail) (omega (arith, feeds.count, few)));
     }

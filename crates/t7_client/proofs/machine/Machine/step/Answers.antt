@@ -17,7 +17,7 @@ pub take_off-requires-clause-few : goal.take_off-requires-clause-few
 take_off-requires-clause-few c =
     let now = c.args.self.now in
     let is : c.treat.new.self ≡ after now c.in-Said.said =
-      not_err c.treat.result c.if-is_err.ensures.value c.treat.ensures.ok ∙ ap (λ (r : Recovery). after r c.in-Said.said) c.look.ensures.kept in
+    not_err c.treat.result c.if-is_err.ensures.value c.treat.ensures.ok ∙ ap (λ (r : Recovery). after r c.in-Said.said) c.look.ensures.kept in
     let P : Recovery → Type 0 = λ r. r.treated + c.in-Said.count ≤ 2 ^ 35 in
     subst P (sym is) (treats_few c.a_front_begins_the_split.ensures.whole now c.in-Said.said c.in-Said.count c.in-Said.ensures.value c.requires.sound)
 
@@ -33,7 +33,7 @@ pub returns-else-is_err-clause-goes : goal.returns-else-is_err-clause-goes
 returns-else-is_err-clause-goes c =
     let now = c.args.self.now in
     let is : c.treat.new.self ≡ after now c.in-Said.said =
-      not_err c.treat.result c.if-is_err.ensures.value c.treat.ensures.ok ∙ ap (λ (r : Recovery). after r c.in-Said.said) c.look.ensures.kept in
+    not_err c.treat.result c.if-is_err.ensures.value c.treat.ensures.ok ∙ ap (λ (r : Recovery). after r c.in-Said.said) c.look.ensures.kept in
     let P : Recovery → Type 0 = λ r. Treats now r in
     subst P (sym (c.take_off.ensures ∙ ap (λ (r : Recovery). taken r c.in-Said.count) is))
     (treats c.a_front_begins_the_split.ensures.whole now c.in-Said.said c.in-Said.count c.in-Said.ensures.value c.in-Said.ensures.long c.requires.sound)

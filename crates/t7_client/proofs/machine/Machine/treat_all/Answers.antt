@@ -15,6 +15,6 @@ loop-preserved c =
     record {
       sound = t.sound;
       goes = λ (more : List ℕ). continues_on _ _ _ _ _ _ (c.loop.invariant.goes more) (t.goes more);
-      dialed = (t.goes []).dialed ∙ c.loop.invariant.dialed;
-      session = (t.goes []).session ∙ c.loop.invariant.session;
+      dialed = (t.goes []).stays.dialed ∙ c.loop.invariant.dialed;
+      session = (t.goes []).stays.session ∙ c.loop.invariant.session;
     }
