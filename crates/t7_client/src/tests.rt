@@ -261,10 +261,10 @@ fn order_once(
     assert!(rt; client.logged_on());
     client.order(SecurityId(1001), Side::Buy, price, qty, 9)?;
     client.logout()?;
-    let first = client.up(&mut out[..10.min(out.len())]);
-    let second = client.up(&mut out[first..]);
+    let (front, back) = out.split_at_mut(out.len().min(10));
+    let count = client.up(front) + client.up(back);
     client.down(b"\x10\0\0\0\xca\0\0\0\x04\0\0\0\0\0\0\0")?;
-    Ok(first + second)
+    Ok(count)
 }
 
 #[test]
