@@ -1,4 +1,12 @@
-pub mod AskedFacts
-pub mod BoughtFacts
-pub mod CastFacts
-pub mod FloorFacts
+pub mod Acting
+pub mod Beginning
+pub mod Clearing
+pub mod Delivering
+pub mod Doing
+pub mod Entering
+pub mod Lines
+pub mod Opening
+pub mod Played
+pub mod Reading
+pub mod ReplyFacts
+pub mod Sending

@@ -1,4 +1,7 @@
-pub mod Asked
-pub mod Bought
-pub mod Cast
-pub mod Floor
+pub mod Handing
+pub mod Kits
+pub mod Lines
+pub mod Reports
+pub mod Script
+pub mod Steps
+pub mod World

@@ -1,11 +1,15 @@
-//! The exchange and the member of a replay: an order from the bytes of an ETI frame to the member's book.
+//! A script is played line by line over the exchange and the member: what the exchange does by the script's events, what is
+//! delivered of the datagrams that it sends, and the member's report at each SHOW. The one public call is `play`; its clause `written` is
+//! the headline, whose words stand in `specs/Reports`.
 #![tactic(auto)]
 
-mod asked;
-mod bought;
-mod cast;
-mod floor;
+mod first;
+mod handing;
+mod playing;
+mod print;
+mod replayer;
+mod report;
 #[cfg(test)]
 mod tests;
 
-pub use floor::{Floor, Refusal};
+pub use playing::play;

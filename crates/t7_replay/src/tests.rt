@@ -1,72 +1,85 @@
-//! Buys by the sample table, from their frames to the member's book.
+//! Scripts, and what they print.
 
-use super::*;
+use crate::play;
 use std::test::Fail;
-use t7_base::Product;
+use t7_base::{MemorySink, Product};
 use t7_layout::Table;
+use t7_outcome::{Finish, ScriptWhy, Stop};
 use t7_sample::SAMPLE;
 
-const PRODUCT: &[u8] =
-    b"product,7\nwindow,4\npackets,8\ndatagram,1472\nsecurity,1001,5\nsecurity,1002,1\nsession,21\n";
+// A product of two securities and two sessions.
+const PRODUCT: &[u8] = b"product,7\nwindow,4\npackets,8\ndatagram,1472\nsecurity,1001,1\nsecurity,1002,1\nsession,21\nsession,22\n";
 
-/// The frame of a buy of security 1001.
-fn buy(price: u8, qty: u8) -> [u8; 48] {
-    let mut frame = [0; 48];
-    frame[0] = 48;
-    frame[4] = 104;
-    frame[8] = 2;
-    frame[12] = 1;
-    frame[16] = 0xe9;
-    frame[17] = 0x03;
-    frame[24] = 9;
-    frame[32] = price;
-    frame[40] = qty;
-    frame
+// A script, what it prints, and how it ends.
+struct Case {
+    script: &'static [u8],
+    printed: &'static [u8],
+    end: Result<Finish, Stop>,
 }
 
-#[test]
-fn the_member_shows_the_better_price_first(rt: HostRuntime) -> Result<(), Fail> {
-    let table = Table::read(rt.alloc(), SAMPLE.as_bytes())?;
-    let product = Product::read(rt.alloc(), PRODUCT)?;
-    let mut floor = Floor::new(rt.alloc(), &table, &product)?;
-    for (price, qty) in [(100, 50), (105, 5), (100, 7)] {
-        assert_eq!(rt; floor.enter(&buy(price, qty)), Ok(()));
-    }
-    assert_eq!(rt; floor.orders().count(), 3);
-    for (order, (price, qty, stamp)) in floor
-        .orders()
-        .zip([(105, 5, 2), (100, 50, 1), (100, 7, 3)].iter())
-    {
-        assert_eq!(rt; order.price.get(), *price);
-        assert_eq!(rt; order.qty.get(), *qty);
-        assert_eq!(rt; order.stamp.get(), *stamp);
-    }
-    assert_eq!(rt; floor.messages(), 3);
-    Ok(())
-}
+static CASES: [Case; 10] = [
+    Case {
+        script: b"OPEN 1\nIN 1 180000006500000001000000307500001500000000000000\nSNAP\nIN 1 30000000680000000200000001000000e903000000000000090000000000000064000000000000003200000000000000\nSA 1\nLA 1\nSHOW",
+        printed: b"SYNC 1\n1001 B 100 50 1\n",
+        end: Ok(Finish::End(1)),
+    },
+    Case {
+        script: b"OPEN 1\nIN 1 180000006500000001000000307500001500000000000000\nSNAP\nIN 1 30000000680000000200000001000000e903000000000000090000000000000064000000000000003200000000000000\nLA 1\nSHOW",
+        printed: b"WAIT\n",
+        end: Ok(Finish::End(1)),
+    },
+    Case {
+        script: b"OPEN 1\nIN 1 180000006500000001000000307500001500000000000000\nSNAP\nIN 1 30000000680000000200000001000000e903000000000000090000000000000064000000000000003200000000000000\nIN 1 30000000680000000300000001000000e9030000000000000a0000000000000063000000000000000a00000000000000\nIN 1 30000000680000000400000001000000e9030000000000000b0000000000000064000000000000001400000000000000\nSA 1\nLA 1\nLA 3\nSHOW\nLB 2\nSHOW",
+        printed: b"MISS 2\n1001 B 100 50 1\nSYNC 3\n1001 B 100 50 1\n1001 B 100 20 3\n1001 B 99 10 2\n",
+        end: Ok(Finish::End(3)),
+    },
+    Case {
+        script: b"OPEN 1\nIN 1 180000006500000001000000307500001500000000000000\nSNAP\nIN 1 30000000680000000200000001000000e903000000000000090000000000000064000000000000003200000000000000\nIN 1 30000000680000000300000001000000e9030000000000000a0000000000000063000000000000000a00000000000000\nIN 1 30000000680000000400000001000000e9030000000000000b0000000000000064000000000000001400000000000000\nLB 3\nLA 3\nLB 2\nLA 2\nLB 1\nLA 1\nSB 1\nSA 1\nSHOW",
+        printed: b"SYNC 3\n1001 B 100 50 1\n1001 B 100 20 3\n1001 B 99 10 2\n",
+        end: Ok(Finish::End(3)),
+    },
+    Case {
+        script: b"RAW\nOPEN 1\nIN 1 18000000650000000100000030750000150000000000000030000000680000000200000001000000e903000000000000090000000000000064000000000000003200000000000000",
+        printed: b"OUT 1 10000000c90000000100000030750000\nOUT 1 30000000d300000000000000000000000000000000000001010000000000000009000000000000000100000000000000\nLIVE 1 10000100ffffffff01000000070000003000030001000000e9030000000000000100000000000000320000000000000001000000000000006400000000000000\n",
+        end: Ok(Finish::End(1)),
+    },
+    Case {
+        script: b"OPEN 1\nIN 1 180000006500000001000000307500001500000000000000\nIN 1 30000000680000000300000001000000e90300000000000009000000000000006400000000000000320000000000000030000000680000000200000001000000e903000000000000090000000000000064000000000000003200000000000000",
+        printed: b"REJECT 1 4\nCLOSE 1\n",
+        end: Ok(Finish::End(0)),
+    },
+    Case {
+        script: b"OPEN 1\nIN 1 180000006500000001000000307500001500000000000000\nSNAP\nIN 1 30000000680000000200000001000000e903000000000000090000000000000064000000000000003200000000000000\nIN 1 30000000680000000300000001000000e9030000000000000a0000000000000063000000000000000a00000000000000\nIN 1 30000000680000000400000001000000e9030000000000000b0000000000000064000000000000001400000000000000\nSA 1\nLA 1\nLA 2\nLA 3\nFORGE LA 10000100ffffffff09000000070000003000060004000000e9030000000000004d000000000000000a0000000000000001000000000000006400000000000000\nSHOW\nSNAP\nSA 2\nSHOW\nIN 1 30000000680000000500000001000000e9030000000000000c0000000000000062000000000000000500000000000000\nSNAP\nSA 3\nSHOW",
+        printed: b"REFUSED 4 absent\nREFUSED 4 absent\nSYNC 4\n1001 B 100 50 1\n1001 B 100 20 3\n1001 B 99 10 2\n1001 B 98 5 4\n",
+        end: Ok(Finish::End(4)),
+    },
+    Case {
+        script: b"FORGE LA 10000100ffffffff01000000070000003000",
+        printed: b"BAD cut 16\n",
+        end: Ok(Finish::End(0)),
+    },
+    Case {
+        script: b"OPEN 1\nIN 1 180000006500000001000000307500001500000000000000\nTICK 1\nRAW\nTICK 30000000000\nTICK 60000000000",
+        printed: b"OUT 1 08000000cb000000\nCLOSE 1\n",
+        end: Ok(Finish::End(0)),
+    },
+    Case {
+        script: b"CLEAR 1001\nCUT 7",
+        printed: b"",
+        end: Err(Stop::Script { row: 2, why: ScriptWhy::Connection }),
+    },
+];
 
 #[test]
-fn a_frame_with_another_byte_is_not_built(rt: HostRuntime) -> Result<(), Fail> {
-    let table = Table::read(rt.alloc(), SAMPLE.as_bytes())?;
-    let product = Product::read(rt.alloc(), PRODUCT)?;
-    let mut floor = Floor::new(rt.alloc(), &table, &product)?;
-    let changes = [
-        // BodyLen, TemplateID, a sell, no side, the second security, a price off its step, no quantity, one below zero.
-        (0, 49),
-        (4, 105),
-        (12, 2),
-        (12, 255),
-        (16, 0xea),
-        (32, 101),
-        (40, 0),
-        (47, 0x80),
-    ];
-    for (place, byte) in changes {
-        let mut frame = buy(100, 50);
-        assert!(rt; place < 48);
-        frame[place] = byte;
-        assert_eq!(rt; floor.enter(&frame), Err(Refusal::NotBuilt), "{place}");
+fn scripts_print_what_they_are_to(rt: HostRuntime) -> Result<(), Fail> {
+    let alloc = rt.alloc();
+    let table = Table::read(alloc, SAMPLE.as_bytes())?;
+    let product = Product::read(alloc, PRODUCT)?;
+    for case in &CASES {
+        let mut sink = MemorySink::new(alloc, 100, 10_000, Vec::new(alloc))?;
+        let end = play(alloc, &table, &product, case.script, &mut sink);
+        assert_eq!(rt; end, case.end);
+        assert_eq!(rt; sink.written(), Some(case.printed));
     }
-    assert_eq!(rt; floor.messages(), 0);
     Ok(())
 }

@@ -4,12 +4,14 @@
 mod cells;
 mod draw;
 mod event;
+mod laws;
 mod lines;
 mod reading;
 mod words;
 
 pub use draw::{Draw, sample};
 pub use event::{Event, LineRefusal};
+pub use laws::a_cleared_security_is_listed;
 pub use lines::{kept_line, misfit_words, order_line};
 pub use reading::read_event;
 

@@ -1,0 +1,152 @@
+-- What the lines of a script do, and what a script comes to.
+use Rattle.std.specs.Prelude.{ℕ, ◌+◌, nat_lt, Bool, true, false, ℤ, List, [], ◌∷◌, ◌++◌, Option, Some, None, Result, Ok, Err, codes, drop, length, map, if◌then◌else◌}
+use Rattle.t7_base.specs.declared.ids.Channel.TheVariants.{Live, Snap}
+use Rattle.t7_base.specs.declared.ids.Feed.{Feed}
+use Rattle.t7_book.specs.declared.command.Command.{Command}
+use Rattle.t7_book.specs.Acts.{Accepts, Act, Beats, Snaps}
+use Rattle.t7_book.specs.Trace.{trace}
+use Rattle.t7_eobi.specs.Faults.{fault_of}
+use Rattle.t7_entry.specs.ByNumber.{contains_key}
+use Rattle.t7_entry.specs.State.{State}
+use Rattle.t7_entry.specs.Days.{replies_in}
+use Rattle.t7_entry.specs.Events as entry
+use Rattle.t7_acts.specs.InStep.{setting_of}
+use Rattle.t7_feed.specs.Arrivals.{Delivery, Terms, channel_of, reading_of}
+use Rattle.t7_feed.specs.Sending.{at_number, sent_on}
+use Rattle.t7_outcome.specs.declared.ending.Finish.TheVariants.{End}
+use Rattle.t7_outcome.specs.declared.ending.ScriptWhy.TheVariants as why
+use Rattle.t7_outcome.specs.declared.ending.Stop.{Stop}
+use Rattle.t7_outcome.specs.declared.ending.Stop.TheVariants.{Memory, Script, Unbuilt, WriteFault}
+use Rattle.t7_outcome.specs.Outcome.{Outcome, Shows, ends, says}
+use Rattle.t7_outcome.specs.Steps.{Goes, Step, Stops, stepped}
+use Rattle.t7_script.specs.declared.event.Event.{Event}
+use Rattle.t7_script.specs.declared.event.Event.TheVariants as event
+use Rattle.t7_script.specs.declared.event.LineRefusal.{LineRefusal}
+use Rattle.t7_script.specs.declared.event.LineRefusal.TheVariants as refusal
+use Rattle.t7_script.specs.Events.{event_of}
+use Rattle.t7_replay.specs.Lines.{bad_lines, day_full_line, replies_lines, sent_lines, under}
+use Rattle.t7_replay.specs.Reports.{Moment}
+use Rattle.t7_replay.specs.World.{World, on_next_line}
+
+-- a line can't be done
+abbrev pub connection_fault : World → Step World Moment
+connection_fault world = Stops (Script world.row why.Connection)
+
+-- what the exchange did once an event has led to this: the commands that it accepted are new acts
+abbrev pub acts_after : World → State → List Act
+acts_after world state = world.acts ++ map Accepts (drop (length world.state.core.accepted) state.core.accepted)
+
+-- the world after what an event did at the exchange
+abbrev pub after_entry : World → entry.Result → World
+after_entry world result = record world { state = result.state; acts = acts_after world result.state }
+
+-- what an event at the exchange prints: the replies in their order, and under RAW the live datagrams that the new commands send
+abbrev pub entry_lines : Terms → World → entry.Result → List (List ℕ)
+entry_lines terms world result =
+    replies_lines terms.layouts world.raw (replies_in result.doings)
+    ++ under world.raw (sent_lines (codes "LIVE") (sent_on terms world.acts Live) (sent_on terms (acts_after world result.state) Live))
+
+-- what was done at the exchange
+abbrev pub entered_as : Terms → World → entry.Result → Step World Moment
+entered_as terms world result = Goes (after_entry world result) (says (entry_lines terms world result))
+
+-- an event happens at the exchange
+abbrev pub entered : Terms → World → entry.Event → Step World Moment
+entered terms world event = entered_as terms world (entry.happens (setting_of terms) world.state event)
+
+-- OPEN: a connection opens, which may not be open
+abbrev pub opening : Terms → World → ℕ → Bool → Step World Moment
+opening terms world conn true = connection_fault world
+opening terms world conn false = entered terms world (entry.Opened conn)
+
+-- IN and CUT: something happens on a connection, which has to be open
+abbrev pub on_open : Terms → World → entry.Event → Bool → Step World Moment
+on_open terms world event true = entered terms world event
+on_open terms world event false = connection_fault world
+
+-- CLEAR: a security is cleared, unless 200,000 commands were accepted
+abbrev pub clearing : Terms → World → ℤ → Step World Moment
+clearing terms world security =
+    if nat_lt (length world.state.core.accepted) 200_000 then entered terms world (entry.Clear security world.moment)
+    else Goes world (says (day_full_line ∷ []))
+
+-- BEAT: the exchange sends a heartbeat
+abbrev pub beating : Terms → World → Step World Moment
+beating terms world =
+    let acts = world.acts ++ Beats ∷ [] in
+    Goes (record world { acts = acts }) (says (under world.raw (sent_lines (codes "LIVE") (sent_on terms world.acts Live) (sent_on terms acts Live))))
+
+-- SNAP: the exchange sends the next snapshot datagram
+abbrev pub snapping : Terms → World → Step World Moment
+snapping terms world =
+    let acts = world.acts ++ Snaps ∷ [] in
+    Goes (record world { acts = acts }) (says (under world.raw (sent_lines (codes "SNAP") (sent_on terms world.acts Snap) (sent_on terms acts Snap))))
+
+-- bytes are delivered to the member on a feed, which says where they are no datagram of it
+abbrev pub delivered : Terms → World → Feed → List ℕ → Step World Moment
+delivered terms world feed bytes =
+    Goes (record world { came = record { feed = feed; bytes = bytes } ∷ world.came }) (says (bad_lines (fault_of (reading_of terms feed) bytes)))
+
+-- LA, LB, SA and SB: a datagram that was sent is delivered
+abbrev pub delivering : Terms → World → Feed → Option (List ℕ) → Step World Moment
+delivering terms world feed (Some bytes) = delivered terms world feed bytes
+delivering terms world feed None = Stops (Script world.row why.Datagram)
+
+-- what a report is about now
+abbrev pub moment_of : Terms → World → Moment
+moment_of terms world = record { terms = terms; acts = world.acts; came = world.came; forged = world.forged }
+
+-- the events: what each does in a world
+abbrev pub done_by : Terms → World → Event → Step World Moment
+done_by terms world event.Raw = Goes (record world { raw = true }) []
+done_by terms world (event.Opens conn) = opening terms world conn (contains_key world.state.inputs conn)
+done_by terms world (event.Input conn bytes) = on_open terms world (entry.Bytes conn bytes world.moment) (contains_key world.state.inputs conn)
+done_by terms world (event.Cut conn) = on_open terms world (entry.Closed conn) (contains_key world.state.inputs conn)
+done_by terms world (event.Tick moment) = entered terms (record world { moment = moment }) (entry.Tick moment)
+done_by terms world (event.Clear security) = clearing terms world security
+done_by terms world event.Beat = beating terms world
+done_by terms world event.Snap = snapping terms world
+done_by terms world (event.Deliver feed number) = delivering terms world feed (at_number (sent_on terms world.acts (channel_of feed)) number)
+done_by terms world (event.Forge feed bytes) = delivered terms (record world { forged = true }) feed bytes
+done_by terms world event.Show = Goes world (Shows (moment_of terms world) ∷ [])
+done_by terms world (event.Dial conn session) = Stops (Unbuilt world.row)
+done_by terms world (event.Order security side price quantity client) = Stops (Unbuilt world.row)
+done_by terms world (event.Up count) = Stops (Unbuilt world.row)
+done_by terms world (event.Down count) = Stops (Unbuilt world.row)
+done_by terms world event.List = Stops (Unbuilt world.row)
+
+-- why a line stops that is no event: the first test that it fails
+abbrev pub stop_of : ℕ → LineRefusal → Stop
+stop_of row refusal.Event = Script row why.Event
+stop_of row refusal.Number = Script row why.Number
+stop_of row refusal.Memory = Memory
+
+-- what is read of a line is done, or stops the script
+abbrev pub read_as : Terms → World → Result Event LineRefusal → Step World Moment
+read_as terms world (Ok event) = done_by terms world event
+read_as terms world (Err why) = Stops (stop_of world.row why)
+
+-- what a line does: its event, which is read by the product and the moment of the last TICK
+abbrev pub done_read : Terms → World → List ℕ → Step World Moment
+done_read terms world line = read_as terms world (event_of (record { listing = terms.listing; moment = world.moment }) line)
+
+-- what the line does whose number is the world's row; there may be 200,000 lines
+abbrev pub done_at : Terms → World → List ℕ → Step World Moment
+done_at terms world line = if nat_lt 200_000 world.row then Stops (Script world.row why.Long) else done_read terms world line
+
+-- what the next line does; lines are numbered from 1
+abbrev pub step_at : Terms → World → List ℕ → Step World Moment
+step_at terms world line = done_at terms (on_next_line world) line
+
+-- what lines come to: each does what it says, and after the last one `END n` is due, n the number of live messages
+abbrev pub played : Terms → World → List (List ℕ) → Outcome Moment
+played terms world [] = ends (Ok (End (length (trace terms.listing world.state.core.accepted))))
+played terms world (line ∷ lines) = stepped (step_at terms world line) (λ after. played terms after lines)
+
+-- the stops that a script can bring
+abbrev pub OfPlay : Stop → Type 0
+OfPlay (Script row why) = Unit {0}
+OfPlay (Unbuilt row) = Unit {0}
+OfPlay WriteFault = Unit {0}
+OfPlay Memory = Unit {0}
+OfPlay _ = ⊥
