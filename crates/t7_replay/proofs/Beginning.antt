@@ -1,5 +1,5 @@
 -- Before the first line.
-use Rattle.std.proofs.Common.{◌≡◌, ℕ, Bool, false, List, [], length, refl, sym, ◌∙◌, ap, subst, arith}
+use Rattle.std.proofs.Common.{◌≡◌, false, List, [], length, refl, sym, ◌∙◌, ap, subst, arith}
 use Rattle.t7_base.specs.declared.ids.Channel.{Channel}
 use Rattle.t7_base.specs.declared.ids.Channel.TheVariants.{Live, Snap}
 use Rattle.t7_book.specs.Acts.{Act}
@@ -9,7 +9,7 @@ use Rattle.t7_acts.specs.InStep.{setting_of}
 use Rattle.t7_acts.specs.Left.{left_of}
 use Rattle.t7_feed.specs.Arrivals.{Terms}
 use Rattle.t7_feed.specs.Sending.{sent_on}
-use Rattle.t7_member.specs.Keeping.{Image, Keeps}
+use Rattle.t7_member.specs.Keeping.{Keeps}
 use Rattle.t7_replay.specs.Kits.{Kit, Stands, terms_of}
 use Rattle.t7_replay.specs.World.{new_world}
 use Rattle.t7_replay.proofs.Entering.{same_day}

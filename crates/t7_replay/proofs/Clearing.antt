@@ -1,18 +1,16 @@
 -- CLEAR of a security.
-use Rattle.std.proofs.Common.{◌≡◌, ℕ, ℤ, ◌↔◌, ◌++◌, Bool, true, false, IsTrue, List, [], ◌∷◌, Result, Ok, Err, IfOk, length, nat_lt, nat_le, refl, sym, ◌∙◌, ap, subst, arith}
+use Rattle.std.proofs.Common.{◌≡◌, ℕ, ℤ, ◌↔◌, true, false, IsTrue, List, [], ◌∷◌, Result, Ok, Err, IfOk, length, nat_lt, refl, sym, ◌∙◌, ap, subst, arith}
 use Rattle.std.proofs.lemmas.Bool.Decides.{nat_tests}
-use Rattle.t7_entry.specs.Days.{Day}
 use Rattle.t7_entry.specs.Events as entry
 use Rattle.t7_entry.specs.State.{State}
 use Rattle.t7_orders.specs.Judged.{is_day_full}
 use Rattle.t7_feed.specs.Arrivals.{Terms}
 use Rattle.t7_outcome.specs.Outcome.{says, text_of}
-use Rattle.t7_outcome.specs.Steps.{Goes, Step}
+use Rattle.t7_outcome.specs.Steps.{Goes}
 use Rattle.t7_script.specs.declared.event.Event.TheVariants as kind
 use Rattle.t7_replay.specs.Kits.{Does, Kit, Stands}
 use Rattle.t7_replay.specs.Lines.{day_full_line}
-use Rattle.t7_replay.specs.Reports.{Moment}
-use Rattle.t7_replay.specs.Steps.{clearing, done_by, entered}
+use Rattle.t7_replay.specs.Steps.{done_by, entered}
 use Rattle.t7_replay.specs.World.{World}
 use Rattle.t7_replay.proofs.Doing.{does_says}
 use Rattle.t7_replay.proofs.Opening.{state_of}

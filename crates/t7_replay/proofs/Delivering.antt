@@ -1,10 +1,9 @@
 -- Datagrams that are delivered, and the report.
-use Rattle.std.proofs.Common.{◌≡◌, ◌≤◌, ℕ, Bool, true, false, List, [], ◌∷◌, Option, Some, None, length, refl, sym, ◌∙◌, ap, subst, arith, Result, Ok, Err, IfOk}
+use Rattle.std.proofs.Common.{◌≡◌, ℕ, Bool, true, false, List, [], ◌∷◌, Option, Some, None, refl, sym, ◌∙◌, ap, subst, arith, Result, Ok, Err, IfOk}
 use Rattle.t7_base.specs.declared.ids.Channel.{Channel}
 use Rattle.t7_base.specs.declared.ids.Channel.TheVariants.{Live, Snap}
 use Rattle.t7_base.specs.declared.ids.Feed.{Feed}
 use Rattle.t7_base.specs.declared.public.Resting.{Resting}
-use Rattle.t7_book.specs.declared.command.Command.{Command}
 use Rattle.t7_book.specs.Acts.{Act, commands_of}
 use Rattle.t7_book.specs.Trace.{AreAccepted}
 use Rattle.t7_eobi.specs.Faults.{fault_of}
@@ -13,7 +12,7 @@ use Rattle.t7_entry.specs.State.{State}
 use Rattle.t7_feed.specs.declared.State.{State as Status}
 use Rattle.t7_feed.specs.Arrivals.{AreTerms, Arrival, Delivery, Terms, arrivals, channel_of, reading_of}
 use Rattle.t7_feed.specs.Report.{Report}
-use Rattle.t7_feed.specs.Sending.{AreActs, AreRanged, Genuine, at_number, beats_in, sent_on, snaps_in}
+use Rattle.t7_feed.specs.Sending.{AreActs, AreRanged, Genuine, at_number, sent_on}
 use Rattle.t7_member.specs.Keeping.{Image, Keeps}
 use Rattle.t7_member.specs.Shown.{IsShownOf}
 use Rattle.t7_member.specs.Status.{shown_of, status_of}

@@ -1,10 +1,10 @@
 -- An event happens at the exchange, and what it has to say is handed out.
-use Rattle.std.proofs.Common.{◌≡◌, ◌≤◌, ℕ, ◌+◌, Bool, List, [], ◌∷◌, ◌++◌, codes, drop, length, map, refl, sym, ◌∙◌, ap, subst, arith, length-append, Result, Ok, Err, IfOk, OnOk}
+use Rattle.std.proofs.Common.{◌≡◌, ◌≤◌, ℕ, ◌+◌, Bool, List, [], ◌++◌, codes, drop, length, map, refl, sym, ◌∙◌, ap, subst, arith, length-append, Result, Ok, Err, IfOk, OnOk}
 use Rattle.std.proofs.lemmas.List.{append-nil, length-map}
 use Rattle.std.proofs.Math.Seq.{drop-append_seam}
 use Rattle.t7_base.specs.declared.ids.Channel.TheVariants.{Live, Snap}
 use Rattle.t7_book.specs.declared.command.Command.{Command}
-use Rattle.t7_book.specs.Acts.{Accepts, Act, commands_of}
+use Rattle.t7_book.specs.Acts.{Accepts, Act}
 use Rattle.t7_eobi.specs.declared.walks.Snap.{Snap as Item}
 use Rattle.t7_entry.specs.Days.{Day, day_after, due}
 use Rattle.t7_entry.specs.Events.{Event, happens}
@@ -13,7 +13,7 @@ use Rattle.t7_acts.specs.Added.{added_by}
 use Rattle.t7_acts.specs.InStep.{IsInStep, setting_of}
 use Rattle.t7_acts.specs.Left.{left_of}
 use Rattle.t7_feed.specs.Arrivals.{Delivery, Terms, arrivals}
-use Rattle.t7_feed.specs.Sending.{AreActs, Genuine, beats_in, sent_on, snaps_in}
+use Rattle.t7_feed.specs.Sending.{Genuine, beats_in, sent_on, snaps_in}
 use Rattle.t7_member.specs.Keeping.{Image, Keeps}
 use Rattle.t7_packets.specs.Packing.{datagram_bytes}
 use Rattle.t7_outcome.specs.declared.ending.Stop.{Stop}
@@ -81,8 +81,12 @@ module _ (laws : Grows) (terms : Terms) (world : World) (before mid new : Kit) (
   all_lives = sym mid_step.whole ∙ ap (λ (l : List (List ℕ)). l ++ due_bytes day) stands.lives
 
   live_count : length (sent_on terms world.acts Live) + length (due day) ≡ length (sent_on terms after.acts Live)
-  live_count = omega (arith, ap length all_lives, length-append (sent_on terms world.acts Live) (due_bytes day),
-      length-map (due day) (datagram_bytes terms.layouts terms.listing.segment))
+  live_count = omega (
+    arith,
+    ap length all_lives,
+    length-append (sent_on terms world.acts Live) (due_bytes day),
+    length-map (due day) (datagram_bytes terms.layouts terms.listing.segment),
+  )
 
   new_day : new.day ≡ day_at terms after
   new_day =
@@ -121,11 +125,11 @@ module _ (laws : Grows) (terms : Terms) (world : World) (before mid new : Kit) (
   lines_after =
       ap (λ (d : Day). replies_lines d.setting.layouts mid.raw d.waiting ++ under mid.raw (datagram_lines (codes "LIVE") (length mid.lives) (due_bytes d))) mid_day
       ∙ ap (λ (raw : Bool). replies_lines terms.layouts raw day.waiting ++ under raw (datagram_lines (codes "LIVE") (length mid.lives) (due_bytes day)))
-        (ap (λ (k : Kit). k.raw) is ∙ stands.raw)
+      (ap (λ (k : Kit). k.raw) is ∙ stands.raw)
       ∙ ap (λ (l : List (List ℕ)). replies_lines terms.layouts world.raw day.waiting ++ under world.raw (datagram_lines (codes "LIVE") (length l) (due_bytes day)))
-        (ap (λ (k : Kit). k.lives) is ∙ stands.lives)
+      (ap (λ (k : Kit). k.lives) is ∙ stands.lives)
       ∙ ap (λ (l : List (List ℕ)). replies_lines terms.layouts world.raw day.waiting ++ under world.raw l)
-        (sym (sent_behind (codes "LIVE") (sent_on terms world.acts Live) (due_bytes day) (sent_on terms after.acts Live) all_lives))
+      (sym (sent_behind (codes "LIVE") (sent_on terms world.acts Live) (due_bytes day) (sent_on terms after.acts Live) all_lives))
 
 -- so the event is done
 pub does_entered : Grows → (before mid new : Kit) (event : Event) (text : List ℕ) → mid ≡ record before { day = day_after before.day event } → new ≡ handed mid

@@ -1,5 +1,5 @@
 -- A script that is played: where it stands after so many lines.
-use Rattle.std.proofs.Common.{◌≡◌, ◌≤◌, ℕ, ◌+◌, List, [], ◌∷◌, Option, Some, Ok, Err, length, refl, sym, ◌∙◌, ap, subst, arith}
+use Rattle.std.proofs.Common.{◌≡◌, ℕ, List, [], ◌∷◌, Option, Some, Ok, Err, length, refl, sym, ◌∙◌, ap, arith}
 use Rattle.t7_base.specs.Outside.{Grew}
 use Rattle.t7_base.proofs.Grown.{grew_nothing}
 use Rattle.t7_book.specs.Trace.{trace}

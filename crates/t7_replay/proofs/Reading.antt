@@ -1,5 +1,5 @@
 -- What is read of a line, and what is done with it.
-use Rattle.std.proofs.Common.{◌≡◌, ◌⊎◌, ◌≤◌, ◌<◌, ℕ, ◌+◌, ℤ, Bool, true, false, List, Contains, Result, Ok, Err, IfErr, IfOk, nat_lt, refl, sym, ◌∙◌, ap, subst, arith, if◌then◌else◌, inl, inr}
+use Rattle.std.proofs.Common.{◌≡◌, ◌≤◌, ◌<◌, ℕ, ◌+◌, ℤ, Bool, true, false, List, Contains, Result, Ok, Err, IfErr, IfOk, nat_lt, sym, ◌∙◌, ap, subst, arith, if◌then◌else◌, inl, inr}
 use Rattle.std.proofs.lemmas.Bool.Decides.{nat_tests}
 use Rattle.t7_base.specs.Listing.{Listing}
 use Rattle.t7_feed.specs.Arrivals.{Terms, arrivals}
@@ -13,11 +13,11 @@ use Rattle.t7_script.specs.declared.event.Event.TheVariants as kind
 use Rattle.t7_script.specs.declared.event.LineRefusal.{LineRefusal}
 use Rattle.t7_script.specs.declared.event.LineRefusal.TheVariants as refusal
 use Rattle.t7_script.specs.Events.{IsRead, Setting, event_of}
-use Rattle.t7_replay.specs.Kits.{ClearsListed, Does, IsPlaying, IsReady, Kit, OfLine, Refuses, Stands}
+use Rattle.t7_replay.specs.Kits.{ClearsListed, Does, Kit, OfLine, Refuses, Stands}
 use Rattle.t7_replay.specs.Reports.{IsReported, Moment}
-use Rattle.t7_replay.specs.Steps.{done_at, done_by, done_read, read_as, step_at, stop_of}
+use Rattle.t7_replay.specs.Steps.{done_by, done_read, read_as, step_at, stop_of}
 use Rattle.t7_replay.specs.World.{World, on_next_line}
-use Rattle.t7_replay.proofs.Doing.{Act, does_as, refuses_line, refuses_memory}
+use Rattle.t7_replay.proofs.Doing.{does_as, refuses_memory}
 
 -- an event that was read
 pub said_event : (said : Result Event LineRefusal) (event : Event) → IsRead said (Ok event) → said ≡ Ok event

@@ -1,5 +1,5 @@
 -- Replies that are handed out one by one.
-use Rattle.std.proofs.Common.{◌≡◌, ℕ, ◌<◌, arith, Bool, List, [], ◌∷◌, ◌++◌, Option, Some, None, length, take, drop, refl, sym, ◌∙◌, ap, subst, append_assoc}
+use Rattle.std.proofs.Common.{◌≡◌, ℕ, ◌<◌, arith, Bool, List, [], ◌∷◌, ◌++◌, Option, Some, length, take, drop, refl, sym, ◌∙◌, ap, append_assoc}
 use Rattle.std.proofs.lemmas.List.{append-nil}
 use Rattle.std.proofs.Math.Seq.{take-append_seam}
 use Rattle.t7_layout.specs.Layouts.{Layout}
@@ -8,7 +8,7 @@ use Rattle.t7_eti.specs.Saying.{response_bytes}
 use Rattle.t7_entry.specs.Days.{Day}
 use Rattle.t7_entry.specs.State.{Reply, closes, sends}
 use Rattle.t7_exchange.specs.declared.replies.Reply.TheVariants as handed
-use Rattle.t7_exchange.specs.Handed.{first_handed, first_refused_for, first_written, refused_for}
+use Rattle.t7_exchange.specs.Handed.{first_handed, first_refused_for, first_written}
 use Rattle.t7_outcome.specs.Outcome.{text_of}
 use Rattle.t7_outcome.proofs.Lines.{text_of-append}
 use Rattle.t7_replay.specs.Handing.{PrintsReply}
@@ -47,8 +47,8 @@ frame_first layouts raw conn len out now reason (sends c r ∷ more) is written 
     let same : conn ≡ c = cc in
     let count : len ≡ length (response_bytes layouts r) = cc in
     let frame : take len now ≡ response_bytes layouts r =
-        ap (λ (n : ℕ). take n now) count ∙ ap (take (length (response_bytes layouts r))) written
-        ∙ take-append_seam (response_bytes layouts r) (drop (length (response_bytes layouts r)) out) in record {
+    ap (λ (n : ℕ). take n now) count ∙ ap (take (length (response_bytes layouts r))) written
+    ∙ take-append_seam (response_bytes layouts r) (drop (length (response_bytes layouts r)) out) in record {
       reply = sends c r;
       first = refl;
       lines = rw (same, frame, why) refl;

@@ -1,5 +1,5 @@
 -- Heartbeats and snapshot datagrams that are sent.
-use Rattle.std.proofs.Common.{◌≡◌, ◌≤◌, ◌<◌, ℕ, ◌+◌, Bool, List, [], ◌∷◌, ◌++◌, codes, length, refl, sym, ◌∙◌, ap, subst, arith, length-append, Result, Ok, Err, IfOk, OnOk}
+use Rattle.std.proofs.Common.{◌≡◌, ◌≤◌, ℕ, ◌+◌, Bool, List, [], ◌∷◌, ◌++◌, codes, length, refl, sym, ◌∙◌, ap, subst, arith, length-append, Result, Ok, Err, IfOk, OnOk}
 use Rattle.t7_base.specs.declared.ids.Channel.TheVariants.{Live, Snap}
 use Rattle.t7_book.specs.declared.command.Command.{Command}
 use Rattle.t7_book.specs.Acts.{Act, Beats, Snaps, commands_of}
@@ -9,7 +9,7 @@ use Rattle.t7_entry.specs.Days.{Day}
 use Rattle.t7_acts.specs.InStep.{setting_of}
 use Rattle.t7_acts.specs.Left.{left_of, next_snaps}
 use Rattle.t7_acts.specs.Next.{live_bytes, next_datagram}
-use Rattle.t7_packets.specs.Packing.{datagram_bytes, of_beat}
+use Rattle.t7_packets.specs.Packing.{of_beat}
 use Rattle.t7_feed.specs.Arrivals.{Delivery, Terms, arrivals}
 use Rattle.t7_feed.specs.Sending.{Genuine, beats_in, cycle_now, last_of, sent_on, snap_datagram_bytes, snaps_in, under_way}
 use Rattle.t7_member.specs.Keeping.{Image, Keeps}
@@ -60,8 +60,8 @@ module _ (laws : GrowsByBeat) (terms : Terms) (world : World) (kit new : Kit) (r
     day = ap (λ (k : Kit). k.day) is
         ∙ ap (λ (d : Day). record d { live = d.live + 1; beats = d.beats + 1 }) stands.day
         ∙ same_day (setting_of terms) world.state _ _ _ _ _ _ _ _
-          (omega (arith, ap length all_lives, length-append (sent_on terms world.acts Live) (bytes ∷ [])))
-          (sym (laws.beats world.acts)) (sym (laws.left terms world.acts)) (sym (laws.snaps world.acts));
+        (omega (arith, ap length all_lives, length-append (sent_on terms world.acts Live) (bytes ∷ [])))
+        (sym (laws.beats world.acts)) (sym (laws.left terms world.acts)) (sym (laws.snaps world.acts));
     lives = ap (λ (k : Kit). k.lives) is
         ∙ ap (λ (b : List ℕ). kit.lives ++ b ∷ []) beat_is
         ∙ ap (λ (l : List (List ℕ)). l ++ bytes ∷ []) stands.lives
@@ -146,7 +146,7 @@ module _ (laws : GrowsBySnap) (terms : Terms) (world : World) (kit new : Kit) (t
     day = ap (λ (k : Kit). k.day) keeps.others
         ∙ ap (λ (d : Day). record d { left = new.day.left; snaps = d.snaps + 1 }) stands.day
         ∙ same_day (setting_of terms) world.state _ _ _ _ _ _ _ _ (sym (ap length (laws.live terms world.acts))) (sym (laws.beats world.acts))
-          (sym (laws.left terms world.acts keeps.items new.day.left next)) (sym (laws.snaps world.acts));
+        (sym (laws.left terms world.acts keeps.items new.day.left next)) (sym (laws.snaps world.acts));
     lives = ap (λ (k : Kit). k.lives) keeps.others ∙ stands.lives ∙ sym (laws.live terms world.acts);
     snaps = ap (λ (k : Kit). k.snaps) keeps.others
         ∙ ap (λ (b : List ℕ). kit.snaps ++ b ∷ []) same_bytes

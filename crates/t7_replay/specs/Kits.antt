@@ -1,5 +1,5 @@
 -- What the program of a replay keeps, and how it stands in a world.
-use Rattle.std.specs.Prelude.{◌≡◌, ℕ, ℤ, ◌+◌, ◌≤◌, ◌<◌, Bool, false, Contains, List, Option, Some, None, [], ◌∷◌, ◌++◌, codes, length, map}
+use Rattle.std.specs.Prelude.{◌≡◌, ℕ, ℤ, ◌+◌, ◌≤◌, ◌<◌, Bool, false, Contains, List, Option, Some, None, [], ◌∷◌, ◌++◌, codes, length}
 use Rattle.t7_base.specs.declared.ids.Channel.{Channel}
 use Rattle.t7_base.specs.declared.ids.Channel.TheVariants.{Live, Snap}
 use Rattle.t7_base.specs.declared.ids.Feed.{Feed}

@@ -1,8 +1,7 @@
 -- What the lines of a script do, and what a script comes to.
-use Rattle.std.specs.Prelude.{ℕ, ◌+◌, nat_lt, Bool, true, false, ℤ, List, [], ◌∷◌, ◌++◌, Option, Some, None, Result, Ok, Err, codes, drop, length, map, if◌then◌else◌}
+use Rattle.std.specs.Prelude.{ℕ, nat_lt, Bool, true, false, ℤ, List, [], ◌∷◌, ◌++◌, Option, Some, None, Result, Ok, Err, codes, drop, length, map, if◌then◌else◌}
 use Rattle.t7_base.specs.declared.ids.Channel.TheVariants.{Live, Snap}
 use Rattle.t7_base.specs.declared.ids.Feed.{Feed}
-use Rattle.t7_book.specs.declared.command.Command.{Command}
 use Rattle.t7_book.specs.Acts.{Accepts, Act, Beats, Snaps}
 use Rattle.t7_book.specs.Trace.{trace}
 use Rattle.t7_eobi.specs.Faults.{fault_of}
@@ -11,7 +10,7 @@ use Rattle.t7_entry.specs.State.{State}
 use Rattle.t7_entry.specs.Days.{replies_in}
 use Rattle.t7_entry.specs.Events as entry
 use Rattle.t7_acts.specs.InStep.{setting_of}
-use Rattle.t7_feed.specs.Arrivals.{Delivery, Terms, channel_of, reading_of}
+use Rattle.t7_feed.specs.Arrivals.{Terms, channel_of, reading_of}
 use Rattle.t7_feed.specs.Sending.{at_number, sent_on}
 use Rattle.t7_outcome.specs.declared.ending.Finish.TheVariants.{End}
 use Rattle.t7_outcome.specs.declared.ending.ScriptWhy.TheVariants as why

@@ -11,11 +11,7 @@ use t7_eti::Reason;
 use t7_outcome::Line;
 
 /// Puts a line, which is two pieces, one behind the other.
-pub(crate) fn put_line(
-    front: &[u8],
-    rest: &[u8],
-    text: &mut Vec<u8>,
-) -> Result<(), AllocError>
+pub(crate) fn put_line(front: &[u8], rest: &[u8], text: &mut Vec<u8>) -> Result<(), AllocError>
     ensures { OnOk result (text.new.items ≡ text.old.items ++ text_of ((front.now ++ rest.now) ∷ [])) }
 {
     text.extend_from_slice(front)?;

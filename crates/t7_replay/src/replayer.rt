@@ -303,7 +303,16 @@ impl<'a> Replayer<'a> {
         let mut text = Vec::new(self.alloc);
         let sent = self.exchange.beat(&mut out);
         let bytes = &out[..sent.len];
-        if keep_datagram(self.alloc, self.raw, b"LIVE", bytes, &mut self.lives, &mut text).is_err() {
+        if keep_datagram(
+            self.alloc,
+            self.raw,
+            b"LIVE",
+            bytes,
+            &mut self.lives,
+            &mut text,
+        )
+        .is_err()
+        {
             return Err(Stop::Memory);
         }
         Ok(text)
@@ -330,7 +339,16 @@ impl<'a> Replayer<'a> {
         let mut text = Vec::new(self.alloc);
         let sent = self.exchange.snap(&mut out);
         let bytes = &out[..sent.len];
-        if keep_datagram(self.alloc, self.raw, b"SNAP", bytes, &mut self.snaps, &mut text).is_err() {
+        if keep_datagram(
+            self.alloc,
+            self.raw,
+            b"SNAP",
+            bytes,
+            &mut self.snaps,
+            &mut text,
+        )
+        .is_err()
+        {
             return Err(Stop::Memory);
         }
         Ok(text)
@@ -397,7 +415,15 @@ impl<'a> Replayer<'a> {
         if put_replies(self.alloc, &mut self.exchange, self.raw, &mut text).is_err() {
             return Err(Stop::Memory);
         }
-        if keep_datagrams(self.alloc, &mut self.exchange, &mut self.lives, self.raw, &mut text).is_err() {
+        if keep_datagrams(
+            self.alloc,
+            &mut self.exchange,
+            &mut self.lives,
+            self.raw,
+            &mut text,
+        )
+        .is_err()
+        {
             return Err(Stop::Memory);
         }
         Ok(text)
@@ -425,12 +451,7 @@ fn numbered(sent: &[Octets], number: u64) -> Option<&Octets>
 }
 
 // Delivers bytes to the member on a feed, and answers the text of it. An error comes only where memory is wanting.
-fn give(
-    alloc: Global,
-    member: &mut Member<'_>,
-    feed: Feed,
-    bytes: &[u8],
-) -> Result<Vec<u8>, Stop>
+fn give(alloc: Global, member: &mut Member<'_>, feed: Feed, bytes: &[u8]) -> Result<Vec<u8>, Stop>
     ensures given { IfOk result (λ text. Gives feed bytes.now member.old member.new text.items) }
     ensures only { IfErr result (λ stop. stop ≡ Stop.Memory) }
 {

@@ -8,7 +8,8 @@ use t7_outcome::{Finish, ScriptWhy, Stop};
 use t7_sample::SAMPLE;
 
 // A product of two securities and two sessions.
-const PRODUCT: &[u8] = b"product,7\nwindow,4\npackets,8\ndatagram,1472\nsecurity,1001,1\nsecurity,1002,1\nsession,21\nsession,22\n";
+const PRODUCT: &[u8] =
+    b"product,7\nwindow,4\npackets,8\ndatagram,1472\nsecurity,1001,1\nsecurity,1002,1\nsession,21\nsession,22\n";
 
 // A script, what it prints, and how it ends.
 struct Case {
@@ -66,7 +67,10 @@ static CASES: [Case; 10] = [
     Case {
         script: b"CLEAR 1001\nCUT 7",
         printed: b"",
-        end: Err(Stop::Script { row: 2, why: ScriptWhy::Connection }),
+        end: Err(Stop::Script {
+            row: 2,
+            why: ScriptWhy::Connection,
+        }),
     },
 ];
 

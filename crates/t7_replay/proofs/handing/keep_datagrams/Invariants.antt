@@ -1,5 +1,4 @@
 use Rattle.std.proofs.Common.{◌≡◌, ◌+◌, ◌++◌, codes, length}
-use Rattle.t7_entry.specs.Days.{due}
 use Rattle.t7_outcome.specs.Outcome.{text_of}
 use Rattle.t7_replay.specs.Handing.{due_bytes}
 use Rattle.t7_replay.specs.Lines.{datagram_lines, under}

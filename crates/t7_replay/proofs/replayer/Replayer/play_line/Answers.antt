@@ -1,4 +1,4 @@
-use Rattle.std.proofs.Common.{rules, arith}
+use Rattle.std.proofs.Common.{rules}
 use Rattle.t7_replay.proofs.Reading.{next_done, next_refused}
 use Rattle.t7_replay.proofs.replayer.Replayer.play_line.Goals as goal
 
