@@ -13,6 +13,7 @@ abbrev pub changed_at : {X : Type 0} → ByNumber X → ℕ → (X → X) → Op
 changed_at m k f (Some x) = insert m k (f x)
 changed_at m k f None = m
 
+-- the value at a number changed by a function, where there is one
 abbrev pub changed : {X : Type 0} → ByNumber X → ℕ → (X → X) → ByNumber X
 changed m k f = changed_at m k f (get m k)
 
@@ -20,16 +21,19 @@ changed m k f = changed_at m k f (get m k)
 abbrev pub parts : {X Y : Type 0} → (X → Y) → ByNumber X → ByNumber Y
 parts {X} {Y} f m = map {B = ℕ × Y} (λ (e : ℕ × X). (e.0, f e.1)) m
 
+-- what a session holds of its line
 abbrev pub line_part : Held → Line
 line_part h = record { session = h.session; next = h.next; heart = h.heart; sent = h.sent }
 
+-- what a session holds of what has come
 abbrev pub input_part : Held → Input
 input_part h = record { untreated = h.untreated; received = h.received }
 
--- the sessions of the open connections, and what has come on them
+-- the sessions of the open connections
 abbrev pub lines_of : ByNumber Held → ByNumber Line
 lines_of m = parts line_part m
 
+-- what has come on the open connections
 abbrev pub inputs_of : ByNumber Held → ByNumber Input
 inputs_of m = parts input_part m
 

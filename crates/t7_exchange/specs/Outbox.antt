@@ -16,6 +16,7 @@ use Rattle.t7_feed.specs.Sending.{cycle_at, snap_datagram_bytes, under_way}
 use Rattle.t7_snapshot.specs.Sending.{CycleState}
 use Rattle.t7_exchange.specs.declared.sent.Sent.{Sent}
 
+-- what waits to be sent of one product, and what was sent
 pub record Outbox : Type 0 where
   -- of each command whose messages aren't all sent, those that aren't
   pub untold : List (List Public)

@@ -11,6 +11,7 @@ use Rattle.t7_exchange.specs.Wires.{Wires, core_of}
 abbrev pub state_of : List Command → Wires → State
 state_of accepted w = record { core = core_of accepted w.held; inputs = inputs_of w.held }
 
+-- the day: order entry, the replies that wait, and what is to be sent
 abbrev pub day_of : Setting → List Command → Wires → Outbox → Day
 day_of setting accepted w out = record {
   setting = setting;

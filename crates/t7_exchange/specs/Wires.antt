@@ -20,6 +20,7 @@ pub record Wires : Type 0 where
   pub waiting : List Reply
   pub spare : ℕ
 
+-- the reply that waits
 abbrev pub reply_of : Waiting → Reply
 reply_of (waiting.Sends conn response) = sends conn response
 reply_of (waiting.Closes conn) = closes conn

@@ -4,6 +4,7 @@ use Rattle.t7_book.specs.Acts.{Act}
 use Rattle.t7_entry.specs.State.{State, start}
 use Rattle.t7_feed.specs.Arrivals.{Delivery}
 
+-- a state of a replay, between two lines
 pub record World : Type 0 where
   -- order entry, with the commands that were accepted
   pub state : State
