@@ -6,7 +6,7 @@ use Rattle.t7_frames.specs.Frames.{front_of, not_yet}
 use Rattle.t7_frames.specs.Split.{Split, split_of}
 use Rattle.t7_client.specs.declared.fault.ClientFault.{ClientFault}
 use Rattle.t7_client.specs.declared.fault.ClientFault.TheVariants.{Misfit, Memory}
-use Rattle.t7_client.specs.Hearing.{Continues, Heard, StopsBy, Stays, StopsWithin, after_first, heard, heard_behind, heard_by, split_with}
+use Rattle.t7_client.specs.Hearing.{Continues, Heard, StopsBy, Stays, after_first, heard, heard_behind, heard_by}
 use Rattle.t7_client.specs.Recovering.{Recovery, cut}
 use Rattle.t7_client.specs.Sound.{IsSound}
 

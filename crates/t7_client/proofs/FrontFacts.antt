@@ -13,8 +13,8 @@ use Rattle.t7_eti.specs.declared.response.Response.TheVariants as response
 use Rattle.t7_recover.specs.Entries.{AreEntries, IsEntry}
 use Rattle.t7_recover.specs.Gathering.{gathered_with}
 use Rattle.t7_client.specs.declared.machine.Answer.{Answer}
-use Rattle.t7_client.specs.Fronts.{FrontsAreGathered, GathersAFront, known_by, last_known, said_in, said_with}
-use Rattle.t7_client.specs.Hearing.{Heard, after_first, first_as, heard, heard_as, heard_behind, heard_by, response_by, split_with, treating}
+use Rattle.t7_client.specs.Fronts.{FrontsAreGathered, known_by, last_known, said_in}
+use Rattle.t7_client.specs.Hearing.{after_first, first_as, heard, heard_as, heard_behind, heard_by, response_by, split_with, treating}
 use Rattle.t7_client.specs.Recovering.{Recovery, after, asking, asking_again, gathering, holds_known, is_due, is_recovered}
 use Rattle.t7_client.proofs.Treating.{after_layouts}
 

@@ -1,5 +1,5 @@
 -- Numbers of requests that no field has as its null.
-use Rattle.std.proofs.Common.{◌≡◌, ◌≢◌, ℕ, ◌≤◌, ℤ, pos, arith}
+use Rattle.std.proofs.Common.{◌≢◌, ◌≤◌, ℤ, pos, arith}
 use Rattle.std.specs.Prelude.{◌≤ℤ◌, neg_ℤ, negsuc}
 use Rattle.std.proofs.lemmas.Int.{ints}
 use Rattle.t7_base.specs.declared.ids.Side.{Side}

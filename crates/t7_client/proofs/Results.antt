@@ -1,5 +1,5 @@
 -- What the clauses of a call say, once its result was tested.
-use Rattle.std.proofs.Common.{◌≡◌, Bool, true, false, Result, Ok, Err}
+use Rattle.std.proofs.Common.{◌≡◌, true, false, Result, Ok, Err}
 use Rattle.std.specs.Result.{OnErr, OnOk, is_err}
 
 pub not_err : {T E P : Type 0} (r : Result T E) → false ≡ is_err r → OnOk r P → P

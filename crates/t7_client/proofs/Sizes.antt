@@ -1,5 +1,5 @@
 -- A LogonResponse and an answer to a request for responses have at least sixteen bytes.
-use Rattle.std.proofs.Common.{◌≡◌, ℕ, ◌+◌, ◌≤◌, ◌&&◌, ◌⊎◌, Bool, true, false, cond, List, [], ◌∷◌, Option, Some, None, Result, Ok, Err, refl, sym, ap, ◌∙◌, subst, is_some, length, inl, inr, arith, eqb}
+use Rattle.std.proofs.Common.{◌≡◌, ℕ, ◌+◌, ◌≤◌, ◌&&◌, ◌⊎◌, Bool, true, false, cond, List, [], ◌∷◌, Option, Some, None, Ok, Err, refl, ap, ◌∙◌, is_some, inl, inr, arith, eqb}
 use Rattle.std.specs.Prelude.{slice_get, IfSome}
 use Rattle.std.specs.Option.{option_map_or}
 use Rattle.std.proofs.lemmas.Bool.Decides.{nat_tests}
@@ -15,7 +15,6 @@ use Rattle.t7_layout.specs.Rows.{same_kind}
 use Rattle.t7_layout.specs.declared.words.Kind.TheVariants.{Unsigned}
 use Rattle.std.specs.Str.{bytes_eq}
 use Rattle.t7_fields.specs.Messages.{Message, first_unset}
-use Rattle.t7_eti.specs.declared.nulls.FieldFault.{FieldFault}
 use Rattle.t7_eti.specs.declared.nulls.FieldFault.TheVariants as fault
 use Rattle.t7_eti.specs.declared.response.Response.{Response}
 use Rattle.t7_eti.specs.Nulls.{sought}

@@ -1,5 +1,5 @@
 -- What a response leaves of a client, and the frames behind it.
-use Rattle.std.proofs.Common.{◌≡◌, ℕ, suc, ◌+◌, ◌-◌, ◌*◌, ◌^◌, ◌<◌, ◌≤◌, ◌==◌, ◌⊎◌, Bool, true, false, not, ◌&&◌, cond, List, [], ◌∷◌, ◌++◌, length, drop, nat_lt, nat_le, Option, Some, None, refl, sym, ap, ◌∙◌, subst, inl, inr, arith}
+use Rattle.std.proofs.Common.{◌≡◌, ℕ, suc, ◌+◌, ◌*◌, ◌^◌, ◌<◌, ◌≤◌, ◌==◌, ◌⊎◌, Bool, true, false, not, ◌&&◌, cond, List, [], ◌∷◌, ◌++◌, length, drop, nat_lt, nat_le, Option, Some, None, refl, sym, ap, ◌∙◌, subst, inl, inr, arith}
 use Rattle.std.proofs.lemmas.List.{length-append}
 use Rattle.t7_layout.specs.Layouts.{Layout}
 use Rattle.t7_frames.specs.Frames.{Front, IsWhole, bad_length, body_len, front_of, not_yet, whole}
@@ -9,11 +9,10 @@ use Rattle.t7_eti.specs.declared.response.Kept.{Kept}
 use Rattle.t7_eti.specs.declared.response.Response.{Response}
 use Rattle.t7_eti.specs.declared.response.Response.TheVariants as response
 use Rattle.t7_recover.specs.Gathering.{gathered_with}
-use Rattle.t7_client.specs.declared.hearing.Told.{Told}
-use Rattle.t7_client.specs.declared.hearing.Told.TheVariants.{Nothing, Said, Misfit}
+use Rattle.t7_client.specs.declared.hearing.Told.TheVariants.{Said, Misfit}
 use Rattle.t7_client.specs.declared.machine.Answer.{Answer}
 use Rattle.t7_client.specs.Going.{Treats, taken}
-use Rattle.t7_client.specs.Hearing.{Continues, Heard, StopsWithin, after_first, first_as, heard, heard_as, heard_behind, heard_by, response_by, split_with, treating}
+use Rattle.t7_client.specs.Hearing.{Continues, StopsWithin, after_first, first_as, heard, heard_as, heard_behind, heard_by, response_by, split_with, treating}
 use Rattle.t7_client.specs.Recovering.{Recovery, after, answering, asking, asking_again, cut, gathering, is_due}
 use Rattle.t7_client.specs.Sound.{IsSound, asks, owed}
 use Rattle.t7_client.specs.Told.{told_as, told_at}

@@ -1,5 +1,5 @@
 -- What a client gathers, where the responses that come down are ones of a list that is stored for its session.
-use Rattle.std.specs.Prelude.{◌≡◌, ℕ, ◌≤◌, true, List, [], ◌∷◌, Option, Some, None, length, take, option_map}
+use Rattle.std.specs.Prelude.{◌≡◌, ℕ, ◌≤◌, true, List, [], ◌∷◌, Option, Some, length, take, option_map}
 use Rattle.std.specs.Option.{option_map_or}
 use Rattle.t7_base.specs.Outside.{Begins}
 use Rattle.t7_layout.specs.Layouts.{Layout}

@@ -1,5 +1,5 @@
 -- What contracts see of a client that recovers its session's responses, and what its calls and the responses that it reads make of it.
-use Rattle.std.specs.Prelude.{ℕ, ◌+◌, ◌-◌, ◌^◌, ◌==◌, ◌&&◌, not, Bool, true, false, List, [], ◌∷◌, ◌++◌, length, nat_lt, nat_le, Option, None, Some, if◌then◌else◌}
+use Rattle.std.specs.Prelude.{ℕ, ◌+◌, ◌-◌, ◌^◌, ◌==◌, ◌&&◌, not, Bool, true, false, List, [], ◌++◌, length, nat_lt, nat_le, Option, None, Some, if◌then◌else◌}
 use Rattle.t7_layout.specs.Layouts.{Layout}
 use Rattle.t7_eti.specs.declared.reason.Reason.{Reason}
 use Rattle.t7_eti.specs.declared.request.Request.{Request}
@@ -73,7 +73,7 @@ making client asked = record (sending client asked) { made = client.made + 1 }
 abbrev pub asking : Recovery → Recovery
 asking client = sending client (request.Resend client.next (length client.gathered) (2 ^ 128 - 1))
 
--- an answer says that more responses are kept than it sends, and so many are gathered; the client has not asked again since
+-- an answer says that more responses are kept than it sends, those that it sends are gathered, and the client has not asked again since
 abbrev pub is_due : ℕ → Answer → Bool
 is_due count answer = not answer.asked && (nat_lt answer.last answer.known && nat_le answer.last count)
 

@@ -1,6 +1,7 @@
 // The calls of a client.
 
-ghost use Rattle.std.specs.Prelude.{◌≡◌, ℕ, ◌+◌, ◌^◌, ◌<◌, ◌≤◌, ◌++◌, ◌≤ℤ◌, pos, true, None, IfOk, IfErr, OnOk, OnErr, length, min, take, drop};
+ghost use Rattle.std.specs.Prelude.{◌≡◌, ◌+◌, ◌^◌, ◌<◌, ◌≤◌, ◌++◌, ◌≤ℤ◌, pos, length, min, take, drop};
+ghost use Rattle.std.specs.Prelude.{true, None, IfOk, IfErr, OnOk, OnErr};
 ghost use Rattle.t7_eti.specs.declared.request.Request.TheVariants as request;
 ghost use Rattle.t7_eti.specs.Saying.{side_number};
 ghost use Rattle.t7_client.specs.Hearing.{Stays, StopsBy, heard};

@@ -1,6 +1,7 @@
 // A client as a machine over the frames that come down.
 
-ghost use Rattle.std.specs.Prelude.{◌≡◌, ℕ, List, None, ◌+◌, ◌-◌, ◌*◌, ◌^◌, ◌<◌, ◌≤◌, ◌++◌, [], true, IfOk, IfErr, OnOk, OnErr, Ok, Err, length, min, take, drop, ◌⊎◌};
+ghost use Rattle.std.specs.Prelude.{◌≡◌, ◌⊎◌, ℕ, List, ◌+◌, ◌-◌, ◌^◌, ◌<◌, ◌≤◌, ◌++◌, length, min, take, drop};
+ghost use Rattle.std.specs.Prelude.{true, None, IfOk, IfErr, OnOk, OnErr, Ok, Err};
 ghost use Rattle.t7_frames.specs.Frames.{IsWhole, front_of, not_yet};
 ghost use Rattle.t7_eti.specs.Requests.{IsAskable};
 ghost use Rattle.t7_eti.specs.Saying.{EachOrdinary, request_fields};
@@ -8,7 +9,8 @@ ghost use Rattle.t7_client.specs.Hearing.{Continues, Stays, StopsBy, heard};
 ghost use Rattle.t7_client.specs.Going.{Goes, taken};
 ghost use Rattle.t7_client.specs.Told.{IsLong, told_at};
 ghost use Rattle.t7_client.specs.Inside.{recovery_of};
-ghost use Rattle.t7_client.specs.Recovering.{after, asking, asking_again, cut, dialed, gathering, answering, is_due, is_recovered, holds_known, making, new_recovery};
+ghost use Rattle.t7_client.specs.Recovering.{after, answering, asking, asking_again, cut, dialed, gathering};
+ghost use Rattle.t7_client.specs.Recovering.{is_due, is_recovered, making, new_recovery};
 ghost use Rattle.t7_client.specs.Sound.{IsSound};
 
 use crate::fault::ClientFault;

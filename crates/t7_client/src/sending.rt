@@ -32,7 +32,6 @@ pub(crate) fn push_request(
 }
 
 /// A LogonRequest of a session, with number 1 and a HeartBtInt of 30,000.
-#[tactic(auto, unfolding(t7_eti::specs::Requests::request_client, t7_eti::specs::Requests::request_number, t7_eti::specs::Saying::request_fields, t7_fields::specs::Writing::IsOrdinary))]
 pub(crate) fn logon(alloc: Global, table: &Table, session: SessionId) -> Result<Vec<u8>, AllocError>
     requires { session ≤ 4_000_000_000 }
     ensures { IfOk result (λ queue. queue.items ≡ request_bytes table.now (request.Logon 1 30_000 session)) }

@@ -1,6 +1,6 @@
 // A client's connections, against frames that are worked by hand from the manuals' layouts.
 
-ghost use Rattle.std.specs.Prelude.{◌≡◌, ◌<◌, ◌≤◌, ◌+◌, length, true, OnOk};
+ghost use Rattle.std.specs.Prelude.{◌≡◌, ◌≤◌, ◌+◌, length, true};
 
 use crate::{Client, ClientFault};
 use std::alloc::{AllocError, Global};

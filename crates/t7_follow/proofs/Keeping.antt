@@ -1,5 +1,6 @@
 -- What a member that follows the feed keeps, and what it shows by that.
 use Rattle.std.proofs.Common.{◌≡◌, ℕ, ◌+◌, List, [], ◌∷◌, Option, Some, None, IfSome, IfNone, MatchOption, length, arith, refl, sym, ◌∙◌, ap, subst}
+use Rattle.t7_base.specs.Listing.{Listing}
 use Rattle.t7_base.specs.declared.ids.Feed.{Feed}
 use Rattle.t7_book.specs.Acts.{Act}
 use Rattle.t7_eobi.specs.Faults.{fault_of}
@@ -11,7 +12,7 @@ use Rattle.t7_member.specs.Steps.{Delivers}
 use Rattle.t7_net.specs.declared.line.LineItem.{LineItem}
 use Rattle.t7_net.specs.declared.line.LineItem.TheVariants.{Datagram, Quiet}
 use Rattle.t7_follow.specs.Followers.{Following, KeepsAll, Stands, Took, TookDatagram}
-use Rattle.t7_follow.specs.Members.{Made}
+use Rattle.t7_follow.specs.Members.{Made, Takes}
 use Rattle.t7_follow.specs.Reports.{delivered}
 
 -- a fact for each case
@@ -36,18 +37,23 @@ pub record HasTaken (terms : Terms) (came : List Delivery) (now : Following) : T
   pub keeps : KeepsAll terms came now.member
   pub count : now.datagrams ≡ length came
 
+-- acts without an act
+no_acts : (listing : Listing) → AreActs listing []
+no_acts listing = record { accepted = record { few = omega arith; each = tt }; ranged = tt; beats = omega arith; snaps = omega arith }
+
+longer : (delivery : Delivery) (came : List Delivery) → length came + 1 ≡ length (delivery ∷ came)
+longer delivery came = omega arith
+
 pub has_taken : (terms : Terms) (before : List LineItem) (item : LineItem) (old new : Following) → Stands terms before old → Took (item ∷ []) old new
     → HasTaken terms (delivered (item ∷ before)) new
 has_taken terms before Quiet old new stands took =
     subst (λ (f : Following). HasTaken terms (delivered before) f) (sym took) (record { made = stands.made; keeps = stands.keeps; count = stands.count })
-has_taken terms before (Datagram feed bytes) old new stands took = record {
-  made = (old.member, stands.made, took.0.takes);
-  keeps = took.0.keeps terms (delivered before) stands.keeps;
-  count = took.1 ∙ ap (λ (n : ℕ). n + 1) stands.count ∙ longer (delivered before);
-}
-  where
-    longer : (came : List Delivery) → length came + 1 ≡ length (record { feed = feed; bytes = bytes } ∷ came)
-    longer came = omega arith
+has_taken terms before (Datagram feed bytes) old new stands took =
+    let are : old.member.terms ≡ terms = (stands.keeps [] (no_acts terms.listing)).holds.terms_are in record {
+      made = (old.member, stands.made, subst (λ (t : Terms). Takes t feed bytes old.member new.member) are took.0.takes);
+      keeps = took.0.keeps terms (delivered before) stands.keeps;
+      count = took.1 ∙ ap (λ (n : ℕ). n + 1) stands.count ∙ longer (record { feed = feed; bytes = bytes }) (delivered before);
+    }
 
 -- a datagram was delivered
 pub delivers : (feed : Feed) (bytes : List ℕ) (old before after : Image) → before ≡ old

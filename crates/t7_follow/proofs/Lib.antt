@@ -1,4 +1,5 @@
 pub mod Asking
+pub mod Counting
 pub mod Ending
 pub mod Growing
 pub mod Keeping

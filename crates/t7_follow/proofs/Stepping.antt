@@ -1,8 +1,8 @@
 -- What one receipt comes to.
-use Rattle.std.proofs.Common.{◌≡◌, ◌≢◌, ℕ, List, [], ◌∷◌, ◌++◌, Bool, true, false, Option, Result, Ok, Err, OnOk, IfErr, take, if◌then◌else◌, refl, sym, ◌∙◌, ap, subst}
+use Rattle.std.proofs.Common.{◌≡◌, ◌≢◌, ℕ, List, [], ◌∷◌, true, false, Option, Result, Ok, Err, OnOk, IfErr, take, refl, sym, ◌∙◌, ap, subst}
 use Rattle.std.specs.Str.{bytes_eq}
 use Rattle.std.proofs.lemmas.Slice.Eq.{bytes_eq-Decides}
-use Rattle.t7_base.specs.Outside.{Begins, Grew}
+use Rattle.t7_base.specs.Outside.{Grew}
 use Rattle.t7_base.proofs.Grown.{grew_as, grew_nothing}
 use Rattle.t7_feed.specs.Arrivals.{AreTerms, Delivery, Terms}
 use Rattle.t7_member.specs.Keeping.{Image}
@@ -21,7 +21,7 @@ use Rattle.t7_follow.specs.Followers.{Following, KeepsAll, Stands, Stepped, Took
 use Rattle.t7_follow.specs.Lines.{changed_lines, state_line}
 use Rattle.t7_follow.specs.Members.{IsShown, Made, state_of}
 use Rattle.t7_follow.specs.Reports.{IsReported, Moment, Watched, delivered}
-use Rattle.t7_follow.proofs.Keeping.{HasTaken, has_taken}
+use Rattle.t7_follow.proofs.Keeping.{has_taken}
 
 -- the line stands already
 pub same_line : (last line : List ℕ) → bytes_eq last line ≡ true → last ≡ line
@@ -51,7 +51,7 @@ Shown = (terms : Terms) (came : List Delivery) (member : Image) → AreTerms ter
 
 -- the line after it is that of what the member shows
 reported : (terms : Terms) (before : List LineItem) (i : LineItem) (old mid : Following) → Shown → AreTerms terms → Stands terms before old → Took (i ∷ []) old mid
-    → IsReported terms (Watched (i ∷ before)) (changed_lines old.printed (state_line (state_of mid.member)))
+    → IsReported (Watched terms (i ∷ before)) (changed_lines old.printed (state_line (state_of mid.member)))
 reported terms before i old mid law are stands took =
     let taken = has_taken terms before i old mid stands took in (
       old.printed,
@@ -68,7 +68,7 @@ module _ (terms : Terms) (before : List LineItem) (i : LineItem) (old mid new : 
   line = state_line (state_of mid.member)
 
   parts : List (Part Moment)
-  parts = Shows (Watched (i ∷ before)) ∷ []
+  parts = Shows (Watched terms (i ∷ before)) ∷ []
 
   stands_now : new.printed ≡ line → Stands terms (i ∷ before) new
   unfolding line
@@ -80,9 +80,9 @@ module _ (terms : Terms) (before : List LineItem) (i : LineItem) (old mid new : 
         count = datagrams ∙ taken.count;
       }
 
-  spelled : Spelled (IsReported terms) parts (changed_lines old.printed line)
+  spelled : Spelled IsReported parts (changed_lines old.printed line)
   unfolding line parts
-  spelled = spelled_shown (IsReported terms) (Watched (i ∷ before)) (changed_lines old.printed line) (reported terms before i old mid law are stands took)
+  spelled = spelled_shown IsReported (Watched terms (i ∷ before)) (changed_lines old.printed line) (reported terms before i old mid law are stands took)
 
   stepped : {T : Type 0} (p q : Option (List ℕ)) (r : Result T Stop) → OnOk r (new.printed ≡ line) → IfErr r (λ stop. stop ≡ WriteFault)
       → Grew p q (Prints (changed_lines old.printed line) r) → (added : List LineItem) → added ≡ i ∷ [] → Stepped terms before new p q r added
@@ -91,14 +91,14 @@ module _ (terms : Terms) (before : List LineItem) (i : LineItem) (old mid new : 
     i,
     is,
     stands_now last,
-    grew_as p q (λ w. w ≡ text_of (changed_lines old.printed line)) (WroteAll (IsReported terms) parts) front
+    grew_as p q (λ w. w ≡ text_of (changed_lines old.printed line)) (WroteAll IsReported parts) front
         (λ w all. (changed_lines old.printed line, spelled, all)),
   )
   stepped {T} p q (Err stop) last only front added is =
       subst (λ (e : Stop). Stepped terms before new p q (let bad : Result T Stop = Err e in bad) added) (sym only) (
         i,
         is,
-        grew_as p q (Prints (changed_lines old.printed line) (let bad : Result T Stop = Err stop in bad)) (WroteCut (IsReported terms) parts) front
+        grew_as p q (Prints (changed_lines old.printed line) (let bad : Result T Stop = Err stop in bad)) (WroteCut IsReported parts) front
             (λ w one. (changed_lines old.printed line, spelled, subst (λ (e : Stop). Prints (changed_lines old.printed line) (let bad : Result T Stop = Err e in bad) w) only one)),
       )
 

@@ -10,9 +10,9 @@ use Rattle.t7_outcome.specs.declared.ending.Stop.TheVariants.{NetFault, WriteFau
 use Rattle.t7_outcome.specs.Outcome.{Part, Shows, text_of}
 use Rattle.t7_outcome.proofs.Lines.{begins_after, spelled_append, text_of-append}
 use Rattle.t7_follow.specs.Clauses.{WroteAll}
-use Rattle.t7_follow.specs.Followers.{Following, OfWatch, Stands, Stepped, Watches, WroteCut}
+use Rattle.t7_follow.specs.Followers.{Following, Stands, Stepped, Watches, WroteCut}
 use Rattle.t7_follow.specs.Following.{watching}
-use Rattle.t7_follow.specs.Reports.{IsReported, Moment, Watched}
+use Rattle.t7_follow.specs.Reports.{IsReported, Watched}
 
 -- lines of parts, and those of others behind them
 pub wrote_both : {Moment : Type 0} (Shown : Moment → List (List ℕ) → Type 0) (p q o : Option (List ℕ)) (parts more : List (Part Moment)) → Grew p q (WroteAll Shown parts)
@@ -39,14 +39,14 @@ wrote_cut Shown p q o parts more front back =
 pub record Goes (terms : Terms) (count : ℕ) (now : Following) (old new : Option (List ℕ)) (receipts : List LineItem) : Type 0 where
   pub length : length receipts ≡ count
   pub stands : Stands terms receipts now
-  pub written : Grew old new (WroteAll (IsReported terms) (watching receipts))
+  pub written : Grew old new (WroteAll IsReported (watching terms receipts))
 
 -- before the first
 pub goes_first : (terms : Terms) (now : Following) (t : Option (List LineItem)) (p : Option (List ℕ)) → Stands terms [] now
     → Grew t t (λ taken. Goes terms 0 now p p (reverse taken))
 goes_first terms now t p stands =
     grew_nothing t (λ taken. Goes terms 0 now p p (reverse taken))
-    (record { length = refl; stands = stands; written = grew_nothing p (WroteAll (IsReported terms) []) ([], refl, refl) })
+    (record { length = refl; stands = stands; written = grew_nothing p (WroteAll IsReported (watching terms [])) ([], refl, refl) })
 
 -- the newest stands first
 newest : (xs ys : List LineItem) (i : LineItem) → ys ≡ i ∷ [] → i ∷ reverse xs ≡ reverse (xs ++ ys)
@@ -60,7 +60,7 @@ goes_next {T} terms count xs ys old new p q o r x is goes step =
     subst (λ (l : List LineItem). Goes terms (count + 1) new p o l) (newest xs ys done.0 done.1) (record {
       length = more (reverse xs) done.0 goes.length;
       stands = done.2;
-      written = wrote_both (IsReported terms) p q o (watching (reverse xs)) (Shows (Watched (done.0 ∷ reverse xs)) ∷ []) goes.written done.3;
+      written = wrote_both IsReported p q o (watching terms (reverse xs)) (Shows (Watched terms (done.0 ∷ reverse xs)) ∷ []) goes.written done.3;
     })
   where
     more : (receipts : List LineItem) (i : LineItem) → length receipts ≡ count → length (i ∷ receipts) ≡ count + 1
@@ -73,10 +73,10 @@ stopped_by : (T U : Type 0) (terms : Terms) (count most : ℕ) (xs ys : List Lin
 stopped_by T U terms count most xs ys old new after p q o NetFault below goes step =
     let same : reverse xs ≡ reverse (xs ++ ys) = ap reverse (sym (append-nil xs) ∙ ap (λ (l : List LineItem). xs ++ l) (sym step.0)) in
     subst (λ (l : List LineItem). Watches terms most after p o (let bad : Result U Stop = Err NetFault in bad) l) same
-    (omega (arith, goes.length), subst (λ (s : Option (List ℕ)). Grew p s (WroteAll (IsReported terms) (watching (reverse xs)))) (sym step.1) goes.written)
+    (omega (arith, goes.length), subst (λ (s : Option (List ℕ)). Grew p s (WroteAll IsReported (watching terms (reverse xs)))) (sym step.1) goes.written)
 stopped_by T U terms count most xs ys old new after p q o WriteFault below goes step =
     subst (λ (l : List LineItem). Watches terms most after p o (let bad : Result U Stop = Err WriteFault in bad) l) (newest xs ys step.0 step.1)
-    (upto (reverse xs) step.0 goes.length, wrote_cut (IsReported terms) p q o (watching (reverse xs)) (Shows (Watched (step.0 ∷ reverse xs)) ∷ []) goes.written step.2)
+    (upto (reverse xs) step.0 goes.length, wrote_cut IsReported p q o (watching terms (reverse xs)) (Shows (Watched terms (step.0 ∷ reverse xs)) ∷ []) goes.written step.2)
   where
     upto : (receipts : List LineItem) (i : LineItem) → length receipts ≡ count → length (i ∷ receipts) ≤ most
     upto receipts i is = omega arith

@@ -15,7 +15,7 @@ use Rattle.t7_follow.specs.Clauses.{WroteAll}
 use Rattle.t7_follow.specs.Following.{watching}
 use Rattle.t7_follow.specs.Lines.{report_lines, tally_lines}
 use Rattle.t7_follow.specs.Members.{Made, Takes, orders_of, state_of}
-use Rattle.t7_follow.specs.Reports.{IsReported, Moment, StandsAt, Watched, delivered}
+use Rattle.t7_follow.specs.Reports.{IsReported, StandsAt, Watched, delivered}
 
 -- what contracts see of it: the member, the line that was printed last, and the number of datagrams that came
 pub record Following : Type 0 where
@@ -36,7 +36,7 @@ pub record Stands (terms : Terms) (receipts : List LineItem) (now : Following) :
 
 -- what a datagram does to the member: it is delivered on its feed, and what the member kept before, it keeps with it
 pub record TookDatagram (feed : Feed) (bytes : List ℕ) (old new : Image) : Type 0 where
-  pub takes : Takes feed bytes old new
+  pub takes : Takes old.terms feed bytes old new
   pub keeps : (terms : Terms) (came : List Delivery) → KeepsAll terms came old → KeepsAll terms (record { feed = feed; bytes = bytes } ∷ came) new
 
 -- what a receipt does: a datagram is delivered and counted
@@ -56,17 +56,17 @@ WroteCut Shown parts written = (lines : _) × Spelled Shown parts lines × Begin
 -- What one receipt came to behind others: it was taken, and its line was written where it was due; or none was, or a write fault cut it off.
 abbrev pub Stepped : {T : Type 0} → Terms → List LineItem → Following → Option (List ℕ) → Option (List ℕ) → Result T Stop → List LineItem → Type 0
 Stepped terms before now old new (Ok done) taken =
-    (item : LineItem) × (taken ≡ item ∷ []) × Stands terms (item ∷ before) now × Grew old new (WroteAll (IsReported terms) (Shows (Watched (item ∷ before)) ∷ []))
+    (item : LineItem) × (taken ≡ item ∷ []) × Stands terms (item ∷ before) now × Grew old new (WroteAll IsReported (Shows (Watched terms (item ∷ before)) ∷ []))
 Stepped terms before now old new (Err NetFault) taken = (taken ≡ []) × (new ≡ old)
 Stepped terms before now old new (Err WriteFault) taken =
-    (item : LineItem) × (taken ≡ item ∷ []) × Grew old new (WroteCut (IsReported terms) (Shows (Watched (item ∷ before)) ∷ []))
+    (item : LineItem) × (taken ≡ item ∷ []) × Grew old new (WroteCut IsReported (Shows (Watched terms (item ∷ before)) ∷ []))
 Stepped terms before now old new (Err stop) taken = ⊥
 
 -- What these receipts came to, of which so many were asked for.
 abbrev pub Watches : {T : Type 0} → Terms → ℕ → Following → Option (List ℕ) → Option (List ℕ) → Result T Stop → List LineItem → Type 0
-Watches terms count now old new (Ok done) receipts = (length receipts ≡ count) × Stands terms receipts now × Grew old new (WroteAll (IsReported terms) (watching receipts))
-Watches terms count now old new (Err NetFault) receipts = (length receipts ≤ count) × Grew old new (WroteAll (IsReported terms) (watching receipts))
-Watches terms count now old new (Err WriteFault) receipts = (length receipts ≤ count) × Grew old new (WroteCut (IsReported terms) (watching receipts))
+Watches terms count now old new (Ok done) receipts = (length receipts ≡ count) × Stands terms receipts now × Grew old new (WroteAll IsReported (watching terms receipts))
+Watches terms count now old new (Err NetFault) receipts = (length receipts ≤ count) × Grew old new (WroteAll IsReported (watching terms receipts))
+Watches terms count now old new (Err WriteFault) receipts = (length receipts ≤ count) × Grew old new (WroteCut IsReported (watching terms receipts))
 Watches terms count now old new (Err stop) receipts = ⊥
 
 -- the stops while receipts are taken

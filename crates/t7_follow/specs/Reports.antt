@@ -13,12 +13,12 @@ delivered [] = []
 delivered (Datagram feed bytes ∷ before) = record { feed = feed; bytes = bytes } ∷ delivered before
 delivered (Quiet ∷ before) = delivered before
 
--- what a report is about, by the receipts so far, the newest of which stands first
+-- what a report is about: the table and the product, and the receipts so far, the newest of which stands first
 pub data Moment : Type 0 where
   -- after a receipt: the status line, where it changed
-  Watched : (receipts : List LineItem) → Moment
+  Watched : (terms : Terms) (receipts : List LineItem) → Moment
   -- behind the last receipt: the report, and the lines of the feeds
-  Final : (receipts : List LineItem) → Moment
+  Final : (terms : Terms) (receipts : List LineItem) → Moment
 
 -- the status line that stands after these receipts: none before the first, else that of what a member shows then
 abbrev pub StandsAt : Terms → List LineItem → List ℕ → Type 0
@@ -27,9 +27,9 @@ StandsAt terms (receipt ∷ before) line = (member : Image) × IsShown terms (de
 
 -- The lines of a moment. After a receipt it is the status line, exactly where it differs from the one before it. Behind the last one it is
 -- the report of what a member shows, and the lines of the feeds with its counts.
-abbrev pub IsReported : Terms → Moment → List (List ℕ) → Type 0
-IsReported terms (Watched []) lines = lines ≡ []
-IsReported terms (Watched (receipt ∷ before)) lines =
+abbrev pub IsReported : Moment → List (List ℕ) → Type 0
+IsReported (Watched terms []) lines = lines ≡ []
+IsReported (Watched terms (receipt ∷ before)) lines =
     (last line : List ℕ) × StandsAt terms before last × StandsAt terms (receipt ∷ before) line × (lines ≡ changed_lines last line)
-IsReported terms (Final receipts) lines =
+IsReported (Final terms receipts) lines =
     (member : Image) × IsShown terms (delivered receipts) member × (lines ≡ report_lines (state_of member) (orders_of member) ++ tally_lines member.tallies)

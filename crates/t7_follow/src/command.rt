@@ -5,7 +5,7 @@ ghost use Rattle.t7_feed.specs.Arrivals.{AreTerms};
 ghost use Rattle.t7_net.specs.Lines.{Bind};
 ghost use Rattle.t7_outcome.specs.Outcome.{Ends, Wrote};
 ghost use Rattle.t7_follow.specs.Clauses.{AsksFor, OfFollow, TakesUpTo, WroteAll, binds_of};
-ghost use Rattle.t7_follow.specs.Following.{followed, watching};
+ghost use Rattle.t7_follow.specs.Following.{followed, terms_of, watching};
 ghost use Rattle.t7_follow.specs.Reports.{IsReported};
 
 use crate::follower::{Follower, watch};
@@ -43,16 +43,16 @@ pub fn follow<D: Lines, S: Sink>(
     sink: &mut S,
 ) -> Result<Finish, Stop>
     // It ends as the receipts say that were taken, but for a fault of the outside and want of memory.
-    ensures end { Grew (D.taken lines.old) (D.taken lines.new) (λ receipts. Ends (followed count (reverse receipts)) result) }
+    ensures end { Grew (D.taken lines.old) (D.taken lines.new) (λ receipts. Ends (followed (terms_of table.now product.now) count (reverse receipts)) result) }
 
     // The headline. What is written are the lines that are due after the receipts that were taken, of which a fault cuts off the end; and where
     // a line or a report is due stand the state, the orders and the counts for which `IsShown` holds of what was delivered by the receipts so far.
     ensures written { Grew (D.taken lines.old) (D.taken lines.new) (λ receipts. Grew (S.written sink.old) (S.written sink.new)
-        (Wrote (IsReported (record { layouts = table.now; listing = product.now })) (followed count (reverse receipts)) result)) }
+        (Wrote IsReported (followed (terms_of table.now product.now) count (reverse receipts)) result)) }
 
     // At a net fault all lines stand that were due before it.
     ensures due { result ≡ Err Stop.NetFault → Grew (D.taken lines.old) (D.taken lines.new) (λ receipts. Grew (S.written sink.old) (S.written sink.new)
-        (WroteAll (IsReported (record { layouts = table.now; listing = product.now })) (watching (reverse receipts)))) }
+        (WroteAll IsReported (watching (terms_of table.now product.now) (reverse receipts)))) }
 
     // The four binds are asked, so many receipts are taken and no more, nothing is sent, and all memory is taken before the first receipt.
     ensures asked { Grew (D.asked lines.old) (D.asked lines.new) (AsksFor (binds_of addresses.now) result) }
@@ -78,7 +78,7 @@ pub fn follow<D: Lines, S: Sink>(
 
 // The table and the product are what both sides of a feed have.
 fn are_terms(table: &Table, product: &Product)
-    ensures { AreTerms (record { layouts = table.now; listing = product.now }) }
+    ensures { AreTerms (terms_of table.now product.now) }
 {
     let _templates = table.templates();
     let _segment = product.segment();
@@ -107,7 +107,8 @@ fn bind_all<D: Lines>(addresses: &Addresses<'_>, lines: &mut D) -> Result<(), St
 // Binds two feeds for listening.
 fn bind_pair<D: Lines>(first: (Feed, &str), second: (Feed, &str), lines: &mut D) -> Result<(), Stop>
     ensures asked { Grew (D.asked lines.old) (D.asked lines.new) (AsksFor
-        (record { feed = first.entry.0; address = first.entry.1.now; listen = true } ∷ record { feed = second.entry.0; address = second.entry.1.now; listen = true } ∷ []) result) }
+        (record { feed = first.entry.0; address = first.entry.1.now; listen = true }
+        ∷ record { feed = second.entry.0; address = second.entry.1.now; listen = true } ∷ []) result) }
     ensures taken { D.taken lines.new ≡ D.taken lines.old }
     ensures cast { D.cast lines.new ≡ D.cast lines.old }
     ensures cause { HasCause (D.faults lines.old) (D.faults lines.new) result }

@@ -84,7 +84,8 @@ impl<'t> Follower<'t> {
 
     // Prints the status line, where it differs from the one that was printed last.
     fn show<S: Sink>(&mut self, sink: &mut S) -> Result<(), Stop>
-        ensures printed { Grew (S.written sink.old) (S.written sink.new) (Prints (changed_lines self.old.printed (state_line (state_of self.old.member))) result) }
+        ensures printed { Grew (S.written sink.old) (S.written sink.new)
+            (Prints (changed_lines self.old.printed (state_line (state_of self.old.member))) result) }
         ensures line { OnOk result (self.new.printed ≡ state_line (state_of self.old.member)) }
         ensures member { self.new.member ≡ self.old.member }
         ensures datagrams { self.new.datagrams ≡ self.old.datagrams }
@@ -167,7 +168,8 @@ pub(crate) fn watch<D: Lines, S: Sink>(
 ) -> Result<(), Stop>
     requires { follower.old.datagrams ≡ 0 }
     ensures watched { (terms : Terms) → AreTerms terms → Stands terms [] follower.old
-        → Grew (D.taken lines.old) (D.taken lines.new) (λ taken. Watches terms count follower.new (S.written sink.old) (S.written sink.new) result (reverse taken)) }
+        → Grew (D.taken lines.old) (D.taken lines.new)
+        (λ taken. Watches terms count follower.new (S.written sink.old) (S.written sink.new) result (reverse taken)) }
     ensures asked { D.asked lines.new ≡ D.asked lines.old }
     ensures cast { D.cast lines.new ≡ D.cast lines.old }
     ensures only { IfErr result OfWatch }
@@ -199,7 +201,8 @@ fn is_line(line: &Line, state: &State) -> bool
 
 // What a member shows that keeps what it is to keep.
 fn what_is_kept_is_shown()
-    ensures { (terms : Terms) (came : List Delivery) (member : Image) → AreTerms terms → Made terms came member → KeepsAll terms came member → IsShown terms came member }
+    ensures { (terms : Terms) (came : List Delivery) (member : Image) → AreTerms terms → Made terms came member → KeepsAll terms came member
+        → IsShown terms came member }
 {
     kept_is_reported();
     what_is_shown_is_supported();

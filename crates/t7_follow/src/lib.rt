@@ -4,9 +4,11 @@
 
 mod command;
 mod follower;
+mod laws;
 mod print;
 
 pub use command::{Addresses, follow};
+pub use laws::counts_are_of_accepted;
 
 #[cfg(test)]
 mod tests;

@@ -1,4 +1,4 @@
-use Rattle.std.proofs.Common.{ℕ, ◌≡◌, ◌≤◌, Some, sym, ap, ◌∙◌, length, arith}
+use Rattle.std.proofs.Common.{◌≤◌, sym, ◌∙◌, arith}
 use Rattle.t7_client.proofs.Reading.{under_found, unfit_none}
 use Rattle.t7_client.proofs.Sizes.{asks_long}
 use Rattle.t7_client.proofs.hearing.response_by.Goals as goal

@@ -1,5 +1,4 @@
-use Rattle.std.proofs.Common.{rules, ◌≡◌, ◌∷◌, ◌++◌, [], List, Result, Ok, Err, refl, ap, map, arith}
-use Rattle.t7_base.specs.declared.public.Resting.{Resting}
+use Rattle.std.proofs.Common.{rules, ◌≡◌, ◌∷◌, [], Result, Ok, Err, refl, ap, map, arith}
 use Rattle.t7_mbook.specs.Walk.{walk_rest}
 use Rattle.t7_outcome.specs.declared.ending.Stop.{Stop}
 use Rattle.t7_outcome.specs.declared.ending.Stop.TheVariants.{WriteFault}

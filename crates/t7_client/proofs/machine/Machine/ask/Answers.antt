@@ -1,4 +1,4 @@
-use Rattle.std.proofs.Common.{rules, arith}
+use Rattle.std.proofs.Common.{arith}
 use Rattle.t7_fields.specs.Writing.{IsOrdinary}
 use Rattle.t7_eti.specs.Requests.{request_client, request_number}
 use Rattle.t7_eti.specs.Saying.{request_fields}

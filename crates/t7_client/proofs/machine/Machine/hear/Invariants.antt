@@ -1,4 +1,4 @@
-use Rattle.std.proofs.Common.{◌≡◌, ℕ, List, ◌+◌, ◌^◌, ◌≤◌, true, length}
+use Rattle.std.proofs.Common.{◌≡◌, ◌+◌, ◌^◌, ◌≤◌, true, length}
 use Rattle.t7_client.specs.Hearing.{Continues}
 use Rattle.t7_client.specs.Sound.{IsSound}
 use Rattle.t7_client.proofs.machine.Machine.hear.Given as goal

@@ -1,6 +1,6 @@
 use Rattle.std.proofs.Common.{◌≡◌, ℕ, ◌+◌, ◌^◌, ◌≤◌, ◌⊎◌, List, Some, sym, ap, ◌∙◌, subst}
 use Rattle.t7_client.specs.Going.{Treats, taken}
-use Rattle.t7_client.specs.Hearing.{Heard, StopsWithin, heard}
+use Rattle.t7_client.specs.Hearing.{Heard}
 use Rattle.t7_client.specs.Recovering.{Recovery, after, cut}
 use Rattle.t7_client.proofs.Results.{an_err, not_err}
 use Rattle.t7_client.proofs.Treating.{misfits, stops_short, treats, treats_few}
