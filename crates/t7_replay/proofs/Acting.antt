@@ -4,7 +4,7 @@ use Rattle.t7_base.specs.Outside.{Begins, Grew}
 use Rattle.t7_base.proofs.Grown.{grew_as, grew_nothing}
 use Rattle.t7_feed.specs.Arrivals.{Terms}
 use Rattle.t7_outcome.specs.declared.ending.Stop.{Stop}
-use Rattle.t7_outcome.specs.declared.ending.Stop.TheVariants.{Memory, Script, Unbuilt, WriteFault}
+use Rattle.t7_outcome.specs.declared.ending.Stop.TheVariants.{Memory, Script, WriteFault}
 use Rattle.t7_outcome.specs.Outcome.{Outcome, Wrote}
 use Rattle.t7_outcome.specs.Steps.{Goes, Step, Stopped, StoppedAt, Stops, WentOn}
 use Rattle.t7_outcome.proofs.Lines.{fronts_all, fronts_none}
@@ -28,7 +28,6 @@ refused_at p step kit stop refuses terms world stands =
 
 pub of_play : (stop : Stop) → OfLine stop → OfPlay stop
 of_play (Script row why) of = tt
-of_play (Unbuilt row) of = tt
 of_play Memory of = tt
 of_play stop of = absurd of
 

@@ -1,5 +1,5 @@
 -- Before the first line.
-use Rattle.std.proofs.Common.{◌≡◌, false, List, [], length, refl, sym, ◌∙◌, ap, subst, arith}
+use Rattle.std.proofs.Common.{◌≡◌, false, List, [], None, length, refl, sym, ◌∙◌, ap, subst, arith}
 use Rattle.t7_base.specs.declared.ids.Channel.{Channel}
 use Rattle.t7_base.specs.declared.ids.Channel.TheVariants.{Live, Snap}
 use Rattle.t7_book.specs.Acts.{Act}
@@ -16,20 +16,23 @@ use Rattle.t7_replay.proofs.Entering.{same_day}
 
 -- the program stands in the world before the first line
 pub stands_new : (terms : Terms) (kit : Kit) → ((terms : Terms) (channel : Channel) → sent_on terms [] channel ≡ []) → ((terms : Terms) → left_of terms [] ≡ [])
-    → kit.day ≡ new_day (setting_of terms) → kit.lives ≡ [] → kit.snaps ≡ [] → kit.moment ≡ 0 → kit.raw ≡ false → kit.row ≡ 0 → kit.listing ≡ terms.listing
+    → kit.day ≡ new_day (setting_of terms) → kit.lives ≡ [] → kit.snaps ≡ [] → kit.caller ≡ None → kit.moment ≡ 0 → kit.raw ≡ false → kit.row ≡ 0 → kit.layouts ≡ terms.layouts → kit.listing ≡ terms.listing
     → kit.image.terms ≡ terms → ((acts : List Act) → Keeps kit.image.terms acts kit.image []) → Stands terms new_world kit
-stands_new terms kit sent left day lives snaps moment raw row listing same keeps = record {
+stands_new terms kit sent left day lives snaps caller moment raw row layouts listing same keeps = record {
   day = day ∙ same_day (setting_of terms) start _ _ _ _ _ _ _ _ (sym (ap length (sent terms Live))) refl (sym (left terms)) refl;
   lives = lives ∙ sym (sent terms Live);
   snaps = snaps ∙ sym (sent terms Snap);
+  caller = caller;
   moment = moment;
   raw = raw;
   row = row;
+  layouts = layouts;
   listing = listing;
   commands = refl;
   numbered = ap length (sent terms Snap);
   few_beats = omega arith;
   few_snaps = omega arith;
+  few_made = omega arith;
   few_lines = omega arith;
   genuine = λ not. tt;
   keeps = λ acts are. subst (λ (t : Terms). Keeps t acts kit.image []) same (keeps acts);

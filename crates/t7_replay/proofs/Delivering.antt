@@ -48,14 +48,17 @@ stands_given terms world kit new image forged feed bytes text stands is gives ge
   day = ap (λ (k : Kit). k.day) is ∙ stands.day;
   lives = ap (λ (k : Kit). k.lives) is ∙ stands.lives;
   snaps = ap (λ (k : Kit). k.snaps) is ∙ stands.snaps;
+  caller = ap (λ (k : Kit). k.caller) is ∙ stands.caller;
   moment = ap (λ (k : Kit). k.moment) is ∙ stands.moment;
   raw = ap (λ (k : Kit). k.raw) is ∙ stands.raw;
   row = ap (λ (k : Kit). k.row) is ∙ stands.row;
+  layouts = ap (λ (k : Kit). k.layouts) is ∙ stands.layouts;
   listing = ap (λ (k : Kit). k.listing) is ∙ stands.listing;
   commands = stands.commands;
   numbered = stands.numbered;
   few_beats = stands.few_beats;
   few_snaps = stands.few_snaps;
+  few_made = stands.few_made;
   few_lines = stands.few_lines;
   genuine = genuine;
   keeps = λ acts are. subst (λ (i : Image). Keeps terms acts i (arrivals terms (record { feed = feed; bytes = bytes } ∷ world.came)))

@@ -19,12 +19,14 @@ use Rattle.t7_packets.specs.Packing.{datagram_bytes}
 use Rattle.t7_outcome.specs.declared.ending.Stop.{Stop}
 use Rattle.t7_outcome.specs.Outcome.{text_of}
 use Rattle.t7_outcome.proofs.Lines.{spelled_says}
+use Rattle.t7_replay.specs.Calling.{told_all}
 use Rattle.t7_replay.specs.Handing.{due_bytes, handed_out}
 use Rattle.t7_replay.specs.Kits.{Does, Kit, Stands, day_at, handed, waiting_lines}
 use Rattle.t7_replay.specs.Lines.{datagram_lines, replies_lines, sent_lines, under}
 use Rattle.t7_replay.specs.Reports.{IsReported}
 use Rattle.t7_replay.specs.Steps.{after_entry, entered, entry_lines}
 use Rattle.t7_replay.specs.World.{World}
+use Rattle.t7_replay.proofs.Telling.{told_made}
 
 -- how what is sent grows as commands are accepted
 pub record Grows : Type 0 where
@@ -64,7 +66,7 @@ module _ (laws : Grows) (terms : Terms) (world : World) (before mid new : Kit) (
   day = day_after (day_at terms world) event
 
   abbrev after : World
-  after = after_entry world (happens (setting_of terms) world.state event)
+  after = after_entry terms world (happens (setting_of terms) world.state event)
 
   -- the commands that it accepts
   abbrev cs : List Command
@@ -100,6 +102,12 @@ module _ (laws : Grows) (terms : Terms) (world : World) (before mid new : Kit) (
       ∙ ap (λ (l : List (List ℕ)). l ++ due_bytes day) (ap (λ (k : Kit). k.lives) is ∙ stands.lives)
       ∙ sym all_lives
 
+  new_caller : new.caller ≡ told_all terms.layouts day.waiting world.caller
+  new_caller =
+      ap (λ (k : Kit). k.caller) next
+      ∙ ap (λ (d : Day). told_all d.setting.layouts d.waiting mid.caller) mid_day
+      ∙ ap (told_all terms.layouts day.waiting) (ap (λ (k : Kit). k.caller) is ∙ stands.caller)
+
   new_image : new.image ≡ before.image
   new_image = ap (λ (k : Kit). k.image) next ∙ ap (λ (k : Kit). k.image) is
 
@@ -108,14 +116,17 @@ module _ (laws : Grows) (terms : Terms) (world : World) (before mid new : Kit) (
     day = new_day;
     lives = new_lives;
     snaps = ap (λ (k : Kit). k.snaps) next ∙ ap (λ (k : Kit). k.snaps) is ∙ stands.snaps ∙ sym (laws.snap terms world.acts cs);
+    caller = new_caller;
     moment = ap (λ (k : Kit). k.moment) next ∙ ap (λ (k : Kit). k.moment) is ∙ stands.moment;
     raw = ap (λ (k : Kit). k.raw) next ∙ ap (λ (k : Kit). k.raw) is ∙ stands.raw;
     row = ap (λ (k : Kit). k.row) next ∙ ap (λ (k : Kit). k.row) is ∙ stands.row;
+    layouts = ap (λ (k : Kit). k.layouts) next ∙ ap (λ (k : Kit). k.layouts) is ∙ stands.layouts;
     listing = ap (λ (k : Kit). k.listing) next ∙ ap (λ (k : Kit). k.listing) is ∙ stands.listing;
     commands = sym mid_step.accepted;
     numbered = ap length (laws.snap terms world.acts cs) ∙ stands.numbered ∙ sym (laws.snaps world.acts cs);
     few_beats = subst (λ (n : ℕ). n ≤ world.row) (sym (laws.beats world.acts cs)) stands.few_beats;
     few_snaps = subst (λ (n : ℕ). n ≤ world.row) (sym (laws.snaps world.acts cs)) stands.few_snaps;
+    few_made = subst (λ (n : ℕ). n ≤ world.row) (sym (told_made terms.layouts day.waiting world.caller)) stands.few_made;
     few_lines = stands.few_lines;
     genuine = λ not. laws.genuine terms world.acts (map Accepts cs) world.came (stands.genuine not);
     keeps = λ acts are. subst (λ (i : Image). Keeps terms acts i (arrivals terms world.came)) (sym new_image) (stands.keeps acts are);

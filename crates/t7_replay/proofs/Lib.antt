@@ -2,7 +2,9 @@ pub mod Acting
 pub mod Beginning
 pub mod Clearing
 pub mod Delivering
+pub mod Dialing
 pub mod Doing
+pub mod Forms
 pub mod Entering
 pub mod Lines
 pub mod Opening
@@ -10,3 +12,4 @@ pub mod Played
 pub mod Reading
 pub mod ReplyFacts
 pub mod Sending
+pub mod Telling

@@ -12,6 +12,7 @@ use Rattle.t7_outcome.specs.Outcome.{Ends, Outcome, Wrote}
 use Rattle.t7_outcome.specs.Steps.{GoesTo, Step, Stopped, StoppedAt, WentOn}
 use Rattle.t7_outcome.proofs.Lines.{SoFar, nothing_yet}
 use Rattle.t7_outcome.proofs.Stepping.{grew_all, grew_on, grew_stopped, stopped_end, went_end, went_to}
+use Rattle.t7_replay.specs.Calling.{made_by}
 use Rattle.t7_replay.specs.Kits.{IsReady, Kit, Stands}
 use Rattle.t7_replay.specs.Reports.{IsReported, Moment}
 use Rattle.t7_replay.specs.Steps.{played, step_at}
@@ -31,6 +32,7 @@ stands_ready terms world kit stands = record {
   told = ap (λ (d : Day). d.untold) stands.day;
   beats = omega (arith, ap (λ (d : Day). d.beats) stands.day, stands.few_beats, stands.row);
   snaps = omega (arith, ap (λ (d : Day). d.snaps) stands.day, stands.few_snaps, stands.row);
+  made = omega (arith, ap made_by stands.caller, stands.few_made, stands.row);
   few = omega (arith, stands.few_lines, stands.row);
 }
 

@@ -1,5 +1,5 @@
 -- What is read of a line, and what is done with it.
-use Rattle.std.proofs.Common.{◌≡◌, ◌≤◌, ◌<◌, ℕ, ◌+◌, ℤ, Bool, true, false, List, Contains, Result, Ok, Err, IfErr, IfOk, nat_lt, sym, ◌∙◌, ap, subst, arith, if◌then◌else◌, inl, inr}
+use Rattle.std.proofs.Common.{◌≡◌, ◌≤◌, ◌<◌, ℕ, ◌+◌, Bool, true, false, List, Result, Ok, Err, IfErr, IfOk, nat_lt, sym, ◌∙◌, ap, subst, arith, if◌then◌else◌, inl, inr}
 use Rattle.std.proofs.lemmas.Bool.Decides.{nat_tests}
 use Rattle.t7_base.specs.Listing.{Listing}
 use Rattle.t7_feed.specs.Arrivals.{Terms, arrivals}
@@ -9,11 +9,10 @@ use Rattle.t7_outcome.specs.declared.ending.Stop.{Stop}
 use Rattle.t7_outcome.specs.declared.ending.Stop.TheVariants.{Memory, Script}
 use Rattle.t7_outcome.specs.Steps.{GoesTo, Step, Stopped, Stops, WentOn}
 use Rattle.t7_script.specs.declared.event.Event.{Event}
-use Rattle.t7_script.specs.declared.event.Event.TheVariants as kind
 use Rattle.t7_script.specs.declared.event.LineRefusal.{LineRefusal}
 use Rattle.t7_script.specs.declared.event.LineRefusal.TheVariants as refusal
-use Rattle.t7_script.specs.Events.{IsRead, Setting, event_of}
-use Rattle.t7_replay.specs.Kits.{ClearsListed, Does, Kit, OfLine, Refuses, Stands}
+use Rattle.t7_script.specs.Events.{IsRead, event_of}
+use Rattle.t7_replay.specs.Kits.{Does, Kit, OfLine, Refuses, Stands}
 use Rattle.t7_replay.specs.Reports.{IsReported, Moment}
 use Rattle.t7_replay.specs.Steps.{done_by, done_read, read_as, step_at, stop_of}
 use Rattle.t7_replay.specs.World.{World, on_next_line}
@@ -23,14 +22,6 @@ use Rattle.t7_replay.proofs.Doing.{does_as, refuses_memory}
 pub said_event : (said : Result Event LineRefusal) (event : Event) → IsRead said (Ok event) → said ≡ Ok event
 said_event said event (inl memory) = absurd (cc)
 said_event said event (inr same) = sym same
-
--- the security of a CLEAR is a listed one
-abbrev pub ClearsAreListed : Type 0
-ClearsAreListed = (setting : Setting) (line : List ℕ) (security : ℤ) → event_of setting line ≡ Ok (kind.Clear security) → Contains setting.listing.securities security
-
-pub read_clears : ClearsAreListed → (setting : Setting) (line : List ℕ) (event : Event) → event_of setting line ≡ Ok event → ClearsListed setting.listing.securities event
-read_clears law setting line (kind.Clear security) is = law setting line security is
-read_clears law setting line event is = tt
 
 -- what is read by the program is what is read in the world
 same_setting : (terms : Terms) (world : World) (kit : Kit) (line : List ℕ) → Stands terms world kit
@@ -89,14 +80,17 @@ stands_next terms world kit new stands is few = record {
   day = ap (λ (k : Kit). k.day) is ∙ stands.day;
   lives = ap (λ (k : Kit). k.lives) is ∙ stands.lives;
   snaps = ap (λ (k : Kit). k.snaps) is ∙ stands.snaps;
+  caller = ap (λ (k : Kit). k.caller) is ∙ stands.caller;
   moment = ap (λ (k : Kit). k.moment) is ∙ stands.moment;
   raw = ap (λ (k : Kit). k.raw) is ∙ stands.raw;
   row = ap (λ (k : Kit). k.row) is ∙ ap (λ (n : ℕ). n + 1) stands.row;
+  layouts = ap (λ (k : Kit). k.layouts) is ∙ stands.layouts;
   listing = ap (λ (k : Kit). k.listing) is ∙ stands.listing;
   commands = stands.commands;
   numbered = stands.numbered;
   few_beats = omega (arith, stands.few_beats);
   few_snaps = omega (arith, stands.few_snaps);
+  few_made = omega (arith, stands.few_made);
   few_lines = omega (arith, few, stands.row);
   genuine = stands.genuine;
   keeps = λ acts are. subst (λ (i : Image). Keeps terms acts i (arrivals terms world.came)) (sym (ap (λ (k : Kit). k.image) is)) (stands.keeps acts are);

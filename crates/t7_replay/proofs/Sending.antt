@@ -67,14 +67,17 @@ module _ (laws : GrowsByBeat) (terms : Terms) (world : World) (kit new : Kit) (r
         ∙ ap (λ (l : List (List ℕ)). l ++ bytes ∷ []) stands.lives
         ∙ sym all_lives;
     snaps = ap (λ (k : Kit). k.snaps) is ∙ stands.snaps ∙ sym (laws.snap terms world.acts);
+    caller = ap (λ (k : Kit). k.caller) is ∙ stands.caller;
     moment = ap (λ (k : Kit). k.moment) is ∙ stands.moment;
     raw = ap (λ (k : Kit). k.raw) is ∙ stands.raw;
     row = ap (λ (k : Kit). k.row) is ∙ stands.row;
+    layouts = ap (λ (k : Kit). k.layouts) is ∙ stands.layouts;
     listing = ap (λ (k : Kit). k.listing) is ∙ stands.listing;
     commands = laws.commands world.acts ∙ stands.commands;
     numbered = ap length (laws.snap terms world.acts) ∙ stands.numbered ∙ sym (laws.snaps world.acts);
     few_beats = subst (λ (n : ℕ). n ≤ world.row) (sym (laws.beats world.acts)) few;
     few_snaps = subst (λ (n : ℕ). n ≤ world.row) (sym (laws.snaps world.acts)) stands.few_snaps;
+    few_made = stands.few_made;
     few_lines = stands.few_lines;
     genuine = λ not. laws.genuine terms world.acts (Beats ∷ []) world.came (stands.genuine not);
     keeps = λ all are. subst (λ (i : Image). Keeps terms all i (arrivals terms world.came)) (sym (ap (λ (k : Kit). k.image) is)) (stands.keeps all are);
@@ -152,14 +155,17 @@ module _ (laws : GrowsBySnap) (terms : Terms) (world : World) (kit new : Kit) (t
         ∙ ap (λ (b : List ℕ). kit.snaps ++ b ∷ []) same_bytes
         ∙ ap (λ (l : List (List ℕ)). l ++ snap_bytes ∷ []) stands.snaps
         ∙ sym all_snaps;
+    caller = ap (λ (k : Kit). k.caller) keeps.others ∙ stands.caller;
     moment = ap (λ (k : Kit). k.moment) keeps.others ∙ stands.moment;
     raw = ap (λ (k : Kit). k.raw) keeps.others ∙ stands.raw;
     row = ap (λ (k : Kit). k.row) keeps.others ∙ stands.row;
+    layouts = ap (λ (k : Kit). k.layouts) keeps.others ∙ stands.layouts;
     listing = ap (λ (k : Kit). k.listing) keeps.others ∙ stands.listing;
     commands = laws.commands world.acts ∙ stands.commands;
     numbered = omega (arith, ap length all_snaps, length-append (sent_on terms world.acts Snap) (snap_bytes ∷ []), stands.numbered, laws.snaps world.acts);
     few_beats = subst (λ (n : ℕ). n ≤ world.row) (sym (laws.beats world.acts)) stands.few_beats;
     few_snaps = subst (λ (n : ℕ). n ≤ world.row) (sym (laws.snaps world.acts)) few_snaps;
+    few_made = stands.few_made;
     few_lines = stands.few_lines;
     genuine = λ not. laws.genuine terms world.acts (Snaps ∷ []) world.came (stands.genuine not);
     keeps = λ all are. subst (λ (i : Image). Keeps terms all i (arrivals terms world.came)) (sym (ap (λ (k : Kit). k.image) keeps.others)) (stands.keeps all are);

@@ -1,9 +1,10 @@
 -- What waits at the exchange is handed out, one by one.
-use Rattle.std.specs.Prelude.{◌≡◌, ℕ, ◌+◌, Bool, true, false, List, [], ◌∷◌, ◌++◌, codes, length, map}
+use Rattle.std.specs.Prelude.{◌≡◌, ℕ, ◌+◌, Bool, true, false, List, [], ◌∷◌, ◌++◌, codes, length, map, Option}
 use Rattle.t7_entry.specs.Days.{Day, due}
 use Rattle.t7_entry.specs.State.{Reply}
 use Rattle.t7_packets.specs.Packing.{datagram_bytes}
 use Rattle.t7_outcome.specs.Outcome.{text_of}
+use Rattle.t7_replay.specs.Calling.{Calling, told_all}
 use Rattle.t7_replay.specs.Lines.{datagram_lines, reply_lines, under}
 
 -- the bytes of the live datagrams that are still to be sent
@@ -14,17 +15,18 @@ due_bytes day = map (datagram_bytes day.setting.layouts day.setting.listing.segm
 abbrev pub handed_out : Day → Day
 handed_out day = record day { waiting = []; untold = []; live = day.live + length (due day) }
 
--- the first reply that waits is taken off, and its lines are put behind a text
-pub record PrintsReply (raw : Bool) (old new : Day) (text later : List ℕ) : Type 0 where
+-- the first reply that waits is taken off, the client is told it, and its lines are put behind a text
+pub record PrintsReply (raw : Bool) (old new : Day) (was now : Option Calling) (text later : List ℕ) : Type 0 where
   pub reply : Reply
   pub first : old.waiting ≡ reply ∷ new.waiting
   pub others : new ≡ record old { waiting = new.waiting }
+  pub tells : now ≡ told_all old.setting.layouts (reply ∷ []) was
   pub lines : later ≡ text ++ text_of (reply_lines old.setting.layouts raw reply)
 
 -- so it is where there is one, and else nothing changes
-abbrev pub PrintsNext : Bool → Day → Day → List ℕ → List ℕ → Bool → Type 0
-PrintsNext raw old new text later true = PrintsReply raw old new text later
-PrintsNext raw old new text later false = (old.waiting ≡ []) × (new ≡ old) × (later ≡ text)
+abbrev pub PrintsNext : Bool → Day → Day → Option Calling → Option Calling → List ℕ → List ℕ → Bool → Type 0
+PrintsNext raw old new was now text later true = PrintsReply raw old new was now text later
+PrintsNext raw old new was now text later false = (old.waiting ≡ []) × (new ≡ old) × (now ≡ was) × (later ≡ text)
 
 -- the first live datagram that is due is taken off and kept, and its line is put behind a text under RAW
 pub record KeepsDatagram (raw : Bool) (old new : Day) (lives kept : List (List ℕ)) (text later : List ℕ) : Type 0 where

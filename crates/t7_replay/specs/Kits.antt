@@ -1,5 +1,5 @@
 -- What the program of a replay keeps, and how it stands in a world.
-use Rattle.std.specs.Prelude.{◌≡◌, ℕ, ℤ, ◌+◌, ◌≤◌, ◌<◌, Bool, false, Contains, List, Option, Some, None, [], ◌∷◌, ◌++◌, codes, length}
+use Rattle.std.specs.Prelude.{◌≡◌, ℕ, ℤ, pos, ◌≤ℤ◌, ◌+◌, ◌≤◌, ◌<◌, Bool, false, Contains, List, Option, Some, None, [], ◌∷◌, ◌++◌, codes, length}
 use Rattle.t7_base.specs.declared.ids.Channel.{Channel}
 use Rattle.t7_base.specs.declared.ids.Channel.TheVariants.{Live, Snap}
 use Rattle.t7_base.specs.declared.ids.Feed.{Feed}
@@ -14,30 +14,34 @@ use Rattle.t7_acts.specs.InStep.{setting_of}
 use Rattle.t7_acts.specs.Left.{left_of}
 use Rattle.t7_feed.specs.Arrivals.{Delivery, Terms, arrivals, reading_of}
 use Rattle.t7_feed.specs.Sending.{AreActs, Genuine, beats_in, cycle_now, sent_on, snap_datagram_bytes, snaps_in, under_way}
+use Rattle.t7_layout.specs.Layouts.{Layout}
 use Rattle.t7_member.specs.Keeping.{Image, Keeps}
 use Rattle.t7_member.specs.declared.member.Delivered.{Delivered}
 use Rattle.t7_member.specs.declared.member.Delivered.TheVariants.{Bad, Taken}
 use Rattle.t7_outcome.specs.declared.ending.Stop.{Stop}
-use Rattle.t7_outcome.specs.declared.ending.Stop.TheVariants.{Memory, Script, Unbuilt}
+use Rattle.t7_outcome.specs.declared.ending.Stop.TheVariants.{Memory, Script}
 use Rattle.t7_outcome.specs.Outcome.{text_of}
 use Rattle.t7_outcome.specs.Steps.{GoesTo, Step, Stopped, WentOn}
 use Rattle.t7_script.specs.declared.event.Event.{Event}
-use Rattle.t7_script.specs.declared.event.Event.TheVariants.{Clear}
+use Rattle.t7_script.specs.declared.event.Event.TheVariants.{Clear, Dial, Order}
+use Rattle.t7_replay.specs.Calling.{Calling, made_by, told_all}
 use Rattle.t7_replay.specs.Handing.{due_bytes, handed_out}
 use Rattle.t7_replay.specs.Lines.{bad_lines, datagram_lines, replies_lines, under}
 use Rattle.t7_replay.specs.Reports.{IsReported, Moment}
 use Rattle.t7_replay.specs.World.{World}
 
--- what contracts see of the program: the exchange, the member, the datagrams that were sent, the moment, whether bytes are printed, how
--- many lines were played, and the product by which lines are read
+-- what contracts see of the program: the exchange, the member, the datagrams that were sent, the client, the moment, whether bytes are
+-- printed, how many lines were played, the table by which the client reads, and the product by which lines are read
 pub record Kit : Type 0 where
   pub day : Day
   pub image : Image
   pub lives : List (List ℕ)
   pub snaps : List (List ℕ)
+  pub caller : Option Calling
   pub moment : ℕ
   pub raw : Bool
   pub row : ℕ
+  pub layouts : List Layout
   pub listing : Listing
 
 -- the exchange in a world, between two lines: nothing waits
@@ -54,20 +58,23 @@ day_at terms world = record {
 }
 
 -- The program stands in a world: it keeps what the world says and the datagrams that its acts send. The commands of the acts are the accepted
--- ones, there are no more heartbeats and snapshot datagrams than lines, and where nothing was forged what was delivered is
--- genuine. Whatever the exchange did, the member keeps what it is to keep of what was delivered.
+-- ones, there are no more heartbeats, snapshot datagrams and orders of the client than lines, and where nothing was forged what was
+-- delivered is genuine. Whatever the exchange did, the member keeps what it is to keep of what was delivered.
 pub record Stands (terms : Terms) (world : World) (kit : Kit) : Type 0 where
   pub day : kit.day ≡ day_at terms world
   pub lives : kit.lives ≡ sent_on terms world.acts Live
   pub snaps : kit.snaps ≡ sent_on terms world.acts Snap
+  pub caller : kit.caller ≡ world.caller
   pub moment : kit.moment ≡ world.moment
   pub raw : kit.raw ≡ world.raw
   pub row : kit.row ≡ world.row
+  pub layouts : kit.layouts ≡ terms.layouts
   pub listing : kit.listing ≡ terms.listing
   pub commands : commands_of world.acts ≡ world.state.core.accepted
   pub numbered : length (sent_on terms world.acts Snap) ≡ snaps_in world.acts
   pub few_beats : beats_in world.acts ≤ world.row
   pub few_snaps : snaps_in world.acts ≤ world.row
+  pub few_made : made_by world.caller ≤ world.row
   pub few_lines : world.row ≤ 200_000
   pub genuine : world.forged ≡ false → Genuine terms world.acts world.came
   pub keeps : (acts : List Act) → AreActs terms.listing acts → Keeps terms acts kit.image (arrivals terms world.came)
@@ -86,10 +93,13 @@ abbrev pub fault_in : Delivered → Option PacketFault
 fault_in Taken = None
 fault_in (Bad fault) = Some fault
 
--- an event clears no security but one of these
-abbrev pub ClearsListed : List ℤ → Event → Type 0
-ClearsListed listed (Clear security) = Contains listed security
-ClearsListed listed event = Unit {0}
+-- what the cells of an event owe: a security to be cleared is one of these, and a session, a security and a ClOrdID of the client are in their ranges
+abbrev pub IsOfForm : List ℤ → Event → Type 0
+IsOfForm listed (Clear security) = Contains listed security
+IsOfForm listed (Dial conn session) = (1 ≤ session) × (session ≤ 4_000_000_000)
+IsOfForm listed (Order security side price quantity client) =
+    (pos 1 ≤ℤ security) × (security ≤ℤ pos 1_000_000_000_000_000_000) × (client < 18_446_744_073_709_551_615)
+IsOfForm listed event = Unit {0}
 
 -- nothing waits, and a line more may be played
 pub record IsReady (kit : Kit) : Type 0 where
@@ -97,6 +107,7 @@ pub record IsReady (kit : Kit) : Type 0 where
   pub told : kit.day.untold ≡ []
   pub beats : kit.day.beats ≤ kit.row
   pub snaps : kit.day.snaps ≤ kit.row
+  pub made : made_by kit.caller ≤ kit.row
   pub few : kit.row ≤ 200_000
 
 -- nothing waits, and a line is played
@@ -105,11 +116,16 @@ pub record IsPlaying (kit : Kit) : Type 0 where
   pub told : kit.day.untold ≡ []
   pub beats : kit.day.beats < kit.row
   pub snaps : kit.day.snaps < kit.row
+  pub made : made_by kit.caller < kit.row
   pub few : kit.row ≤ 200_000
 
 -- the program once all that waits was handed out
 abbrev pub handed : Kit → Kit
-handed kit = record kit { day = handed_out kit.day; lives = kit.lives ++ due_bytes kit.day }
+handed kit = record kit {
+  day = handed_out kit.day;
+  lives = kit.lives ++ due_bytes kit.day;
+  caller = told_all kit.day.setting.layouts kit.day.waiting kit.caller;
+}
 
 -- the lines of all that waits
 abbrev pub waiting_lines : Kit → List (List ℕ)
@@ -133,7 +149,8 @@ pub record KeepsSnap (old new : Kit) (text : List ℕ) : Type 0 where
     day = record old.day { left = new.day.left; snaps = old.day.snaps + 1 };
     snaps = old.snaps ++ snap_datagram_bytes (terms_of old) (old.day.snaps + 1) items ∷ [];
   }
-  pub lines : text ≡ text_of (under old.raw (datagram_lines (codes "SNAP") (length old.snaps) (snap_datagram_bytes (terms_of old) (old.day.snaps + 1) items ∷ [])))
+  pub lines : text
+      ≡ text_of (under old.raw (datagram_lines (codes "SNAP") (length old.snaps) (snap_datagram_bytes (terms_of old) (old.day.snaps + 1) items ∷ [])))
 
 -- bytes were delivered to the member on a feed, and where they are refused that is a text
 pub record Gives (feed : Feed) (bytes : List ℕ) (old new : Image) (text : List ℕ) : Type 0 where
@@ -150,7 +167,6 @@ pub record Does (step : Terms → World → Step World Moment) (old new : Kit) (
 -- the stops that a line can bring before it prints
 abbrev pub OfLine : Stop → Type 0
 OfLine (Script row why) = Unit {0}
-OfLine (Unbuilt row) = Unit {0}
 OfLine Memory = Unit {0}
 OfLine _ = ⊥
 

@@ -1,3 +1,4 @@
+pub mod Calling
 pub mod Handing
 pub mod Kits
 pub mod Lines

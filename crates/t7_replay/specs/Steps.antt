@@ -1,10 +1,15 @@
 -- What the lines of a script do, and what a script comes to.
-use Rattle.std.specs.Prelude.{ℕ, nat_lt, Bool, true, false, ℤ, List, [], ◌∷◌, ◌++◌, Option, Some, None, Result, Ok, Err, codes, drop, length, map, if◌then◌else◌}
+use Rattle.std.specs.Prelude.{ℕ, nat_lt, Bool, true, false, ◌&&◌, ◌||◌, ℤ, pos}
+use Rattle.std.specs.Prelude.{List, [], ◌∷◌, ◌++◌, Option, Some, None, Result, Ok, Err, codes, drop, length, map, take, unwrap_or, if◌then◌else◌}
 use Rattle.t7_base.specs.declared.ids.Channel.TheVariants.{Live, Snap}
 use Rattle.t7_base.specs.declared.ids.Feed.{Feed}
 use Rattle.t7_book.specs.Acts.{Accepts, Act, Beats, Snaps}
 use Rattle.t7_book.specs.Trace.{trace}
+use Rattle.t7_client.specs.Recovering.{is_recovered, making}
 use Rattle.t7_eobi.specs.Faults.{fault_of}
+use Rattle.t7_eti.specs.declared.request.Request.{Request}
+use Rattle.t7_eti.specs.declared.request.Request.TheVariants as request
+use Rattle.t7_eti.specs.Saying.{side_number}
 use Rattle.t7_entry.specs.ByNumber.{contains_key}
 use Rattle.t7_entry.specs.State.{State}
 use Rattle.t7_entry.specs.Days.{replies_in}
@@ -15,7 +20,7 @@ use Rattle.t7_feed.specs.Sending.{at_number, sent_on}
 use Rattle.t7_outcome.specs.declared.ending.Finish.TheVariants.{End}
 use Rattle.t7_outcome.specs.declared.ending.ScriptWhy.TheVariants as why
 use Rattle.t7_outcome.specs.declared.ending.Stop.{Stop}
-use Rattle.t7_outcome.specs.declared.ending.Stop.TheVariants.{Memory, Script, Unbuilt, WriteFault}
+use Rattle.t7_outcome.specs.declared.ending.Stop.TheVariants.{Memory, Script, WriteFault}
 use Rattle.t7_outcome.specs.Outcome.{Outcome, Shows, ends, says}
 use Rattle.t7_outcome.specs.Steps.{Goes, Step, Stops, stepped}
 use Rattle.t7_script.specs.declared.event.Event.{Event}
@@ -23,21 +28,32 @@ use Rattle.t7_script.specs.declared.event.Event.TheVariants as event
 use Rattle.t7_script.specs.declared.event.LineRefusal.{LineRefusal}
 use Rattle.t7_script.specs.declared.event.LineRefusal.TheVariants as refusal
 use Rattle.t7_script.specs.Events.{event_of}
+use Rattle.t7_report.specs.Gathered.{gathered_lines}
+use Rattle.t7_replay.specs.Calling.{Calling, any_on, any_on_line, came_down, client_for, cut_on, dials, is_for, is_on_line, is_too_much, sent_up, told_all}
 use Rattle.t7_replay.specs.Lines.{bad_lines, day_full_line, replies_lines, sent_lines, under}
 use Rattle.t7_replay.specs.Reports.{Moment}
 use Rattle.t7_replay.specs.World.{World, on_next_line}
 
--- a line can't be done
+-- a line can't be done: a connection is open and must not be, or the other way round
 abbrev pub connection_fault : World → Step World Moment
 connection_fault world = Stops (Script world.row why.Connection)
+
+-- the client is not in the state that the event wants
+abbrev pub client_fault : World → Step World Moment
+client_fault world = Stops (Script world.row why.Client)
+
+-- so many bytes are not there
+abbrev pub bytes_fault : World → Step World Moment
+bytes_fault world = Stops (Script world.row why.Bytes)
 
 -- what the exchange did once an event has led to this: the commands that it accepted are new acts
 abbrev pub acts_after : World → State → List Act
 acts_after world state = world.acts ++ map Accepts (drop (length world.state.core.accepted) state.core.accepted)
 
--- the world after what an event did at the exchange
-abbrev pub after_entry : World → entry.Result → World
-after_entry world result = record world { state = result.state; acts = acts_after world result.state }
+-- the world after what an event did at the exchange, of whose replies those on the client's connection are on their way to the client
+abbrev pub after_entry : Terms → World → entry.Result → World
+after_entry terms world result =
+    record world { state = result.state; acts = acts_after world result.state; caller = told_all terms.layouts (replies_in result.doings) world.caller }
 
 -- what an event at the exchange prints: the replies in their order, and under RAW the live datagrams that the new commands send
 abbrev pub entry_lines : Terms → World → entry.Result → List (List ℕ)
@@ -47,7 +63,7 @@ entry_lines terms world result =
 
 -- what was done at the exchange
 abbrev pub entered_as : Terms → World → entry.Result → Step World Moment
-entered_as terms world result = Goes (after_entry world result) (says (entry_lines terms world result))
+entered_as terms world result = Goes (after_entry terms world result) (says (entry_lines terms world result))
 
 -- an event happens at the exchange
 abbrev pub entered : Terms → World → entry.Event → Step World Moment
@@ -58,10 +74,20 @@ abbrev pub opening : Terms → World → ℕ → Bool → Step World Moment
 opening terms world conn true = connection_fault world
 opening terms world conn false = entered terms world (entry.Opened conn)
 
--- IN and CUT: something happens on a connection, which has to be open
+-- something happens on a connection, which has to be open
 abbrev pub on_open : Terms → World → entry.Event → Bool → Step World Moment
 on_open terms world event true = entered terms world event
 on_open terms world event false = connection_fault world
+
+-- IN: bytes come on a connection that is not the client's
+abbrev pub coming_in : Terms → World → ℕ → List ℕ → Step World Moment
+coming_in terms world conn bytes =
+    if any_on world.caller conn then connection_fault world
+    else on_open terms world (entry.Bytes conn bytes world.moment) (contains_key world.state.inputs conn)
+
+-- CUT: a connection closes, and where it is the client's, the client is cut
+abbrev pub cutting : Terms → World → ℕ → Step World Moment
+cutting terms world conn = on_open terms (record world { caller = cut_on world.caller conn }) (entry.Closed conn) (contains_key world.state.inputs conn)
 
 -- CLEAR: a security is cleared, unless 200,000 commands were accepted
 abbrev pub clearing : Terms → World → ℤ → Step World Moment
@@ -91,6 +117,50 @@ abbrev pub delivering : Terms → World → Feed → Option (List ℕ) → Step 
 delivering terms world feed (Some bytes) = delivered terms world feed bytes
 delivering terms world feed None = Stops (Script world.row why.Datagram)
 
+-- DIAL: a connection opens, and the client of a session dials on it, while it is on no other
+abbrev pub dialing : Terms → World → ℕ → ℕ → Step World Moment
+dialing terms world conn session =
+    if contains_key world.state.inputs conn || any_on_line world.caller then connection_fault world
+    else if is_for session world.caller then
+    entered terms (record world { caller = Some (dials conn (client_for terms.layouts session world.caller)) }) (entry.Opened conn)
+    else client_fault world
+
+-- ORDER: the client queues a request for a new order, while it is logged on
+abbrev pub ordering : World → (ℕ → Request) → Option Calling → Step World Moment
+ordering world order None = client_fault world
+ordering world order (Some calling) =
+    if calling.client.logged_on then Goes (record world { caller = Some (record calling { client = making calling.client (order calling.client.next) }) }) []
+    else client_fault world
+
+-- UP: of the client's queued bytes the next so many come to the exchange
+abbrev pub sending : Terms → World → Calling → ℕ → Step World Moment
+sending terms world calling count =
+    if nat_lt (length calling.client.queue) count then bytes_fault world
+    else entered terms (record world { caller = Some (sent_up count calling) }) (entry.Bytes calling.conn (take count calling.client.queue) world.moment)
+
+-- so many as are named, or all of them, on the client's connection, which has to be open
+abbrev pub going_up : Terms → World → Option ℕ → Option Calling → Step World Moment
+going_up terms world count None = connection_fault world
+going_up terms world count (Some calling) =
+    if is_on_line calling && contains_key world.state.inputs calling.conn then sending terms world calling (unwrap_or count (length calling.client.queue))
+    else connection_fault world
+
+-- DOWN: of the bytes that were sent on the client's connection the next so many come to the client, at most 2^35 since its dial
+abbrev pub receiving : World → Calling → ℕ → Step World Moment
+receiving world calling count =
+    if is_too_much count calling then bytes_fault world
+    else Goes (record world { caller = Some (came_down count calling) }) []
+
+-- so many as are named, or all of them
+abbrev pub going_down : World → Option ℕ → Option Calling → Step World Moment
+going_down world count None = client_fault world
+going_down world count (Some calling) = receiving world calling (unwrap_or count (length calling.coming))
+
+-- LIST: the client's report
+abbrev pub reporting : World → Option Calling → Step World Moment
+reporting world None = client_fault world
+reporting world (Some calling) = Goes world (says (gathered_lines (is_recovered calling.client) calling.client.gathered))
+
 -- what a report is about now
 abbrev pub moment_of : Terms → World → Moment
 moment_of terms world = record { terms = terms; acts = world.acts; came = world.came; forged = world.forged }
@@ -99,8 +169,8 @@ moment_of terms world = record { terms = terms; acts = world.acts; came = world.
 abbrev pub done_by : Terms → World → Event → Step World Moment
 done_by terms world event.Raw = Goes (record world { raw = true }) []
 done_by terms world (event.Opens conn) = opening terms world conn (contains_key world.state.inputs conn)
-done_by terms world (event.Input conn bytes) = on_open terms world (entry.Bytes conn bytes world.moment) (contains_key world.state.inputs conn)
-done_by terms world (event.Cut conn) = on_open terms world (entry.Closed conn) (contains_key world.state.inputs conn)
+done_by terms world (event.Input conn bytes) = coming_in terms world conn bytes
+done_by terms world (event.Cut conn) = cutting terms world conn
 done_by terms world (event.Tick moment) = entered terms (record world { moment = moment }) (entry.Tick moment)
 done_by terms world (event.Clear security) = clearing terms world security
 done_by terms world event.Beat = beating terms world
@@ -108,11 +178,12 @@ done_by terms world event.Snap = snapping terms world
 done_by terms world (event.Deliver feed number) = delivering terms world feed (at_number (sent_on terms world.acts (channel_of feed)) number)
 done_by terms world (event.Forge feed bytes) = delivered terms (record world { forged = true }) feed bytes
 done_by terms world event.Show = Goes world (Shows (moment_of terms world) ∷ [])
-done_by terms world (event.Dial conn session) = Stops (Unbuilt world.row)
-done_by terms world (event.Order security side price quantity client) = Stops (Unbuilt world.row)
-done_by terms world (event.Up count) = Stops (Unbuilt world.row)
-done_by terms world (event.Down count) = Stops (Unbuilt world.row)
-done_by terms world event.List = Stops (Unbuilt world.row)
+done_by terms world (event.Dial conn session) = dialing terms world conn session
+done_by terms world (event.Order security side price quantity client) =
+    ordering world (λ number. request.New number security (side_number side) price (pos quantity) client) world.caller
+done_by terms world (event.Up count) = going_up terms world count world.caller
+done_by terms world (event.Down count) = going_down world count world.caller
+done_by terms world event.List = reporting world world.caller
 
 -- why a line stops that is no event: the first test that it fails
 abbrev pub stop_of : ℕ → LineRefusal → Stop
@@ -145,7 +216,6 @@ played terms world (line ∷ lines) = stepped (step_at terms world line) (λ aft
 -- the stops that a script can bring
 abbrev pub OfPlay : Stop → Type 0
 OfPlay (Script row why) = Unit {0}
-OfPlay (Unbuilt row) = Unit {0}
 OfPlay WriteFault = Unit {0}
 OfPlay Memory = Unit {0}
 OfPlay _ = ⊥

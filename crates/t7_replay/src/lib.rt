@@ -1,8 +1,10 @@
-//! A script is played line by line over the exchange and the member: what the exchange does by the script's events, what is
-//! delivered of the datagrams that it sends, and the member's report at each SHOW. The one public call is `play`; its clause `written` is
-//! the headline, whose words stand in `specs/Reports`.
+//! A script is played line by line over the exchange, the member and a client: what the exchange does by the script's events, what is
+//! delivered of the datagrams that it sends, the member's report at each SHOW, and the client's at each LIST. The one public call is
+//! `play`; its clause `written` is the headline, whose words stand in `specs/Reports`.
 #![tactic(auto)]
 
+mod caller;
+mod calls;
 mod first;
 mod handing;
 mod playing;

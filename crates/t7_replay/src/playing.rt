@@ -16,10 +16,11 @@ use t7_base::{Product, Sink};
 use t7_layout::Table;
 use t7_outcome::{Finish, Stop};
 
-/// Plays the lines of a script over an exchange and a member of this table and product, at the beginning of their day.
+/// Plays the lines of a script over an exchange and a member of this table and product, at the beginning of their day, and over a client
+/// of the session that its first DIAL names.
 ///
-/// `Script` and `Unbuilt` come exactly where the line that they name stops the script, `WriteFault` only where the count of the sink
-/// rose, and `Memory` only where memory is wanting. What is written is the text of the lines' parts, of which either of the last two
+/// `Script` comes exactly where the line that it names stops the script, `WriteFault` only where the count of the sink rose, and
+/// `Memory` only where memory is wanting. What is written is the text of the lines' parts, of which either of the last two
 /// may cut off the end; and where a part is a report, which is at each SHOW, stand the lines of a state and of orders that are reported as
 /// `IsReported` says.
 pub fn play<S: Sink>(
@@ -50,7 +51,8 @@ fn play_lines<S: Sink>(
 ) -> Result<Finish, Stop>
     requires { Stands (terms_of replayer.old) new_world replayer.old }
     ensures end { Ends (played (terms_of replayer.old) new_world (lines_of script.now)) result }
-    ensures written { Grew (S.written sink.old) (S.written sink.new) (Wrote IsReported (played (terms_of replayer.old) new_world (lines_of script.now)) result) }
+    ensures written { Grew (S.written sink.old) (S.written sink.new)
+        (Wrote IsReported (played (terms_of replayer.old) new_world (lines_of script.now)) result) }
     ensures only { IfErr result OfPlay }
     ensures count { S.faults sink.old ≤ S.faults sink.new }
     ensures write_fault { result ≡ Err Stop.WriteFault → Rose (S.faults sink.old) (S.faults sink.new) }

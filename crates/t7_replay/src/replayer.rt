@@ -1,4 +1,4 @@
-//! The exchange and the member of a replay, which the events of a script drive.
+//! The exchange, the member and the client of a replay, which the events of a script drive.
 
 ghost use Rattle.std.specs.Prelude.{◌≡◌, ◌≤◌, [], ◌∷◌, codes, length, Contains, IfErr, IfOk, OnErr, OnOk, Err, option_copied};
 ghost use Rattle.t7_base.specs.Outside.{Begins, Grew, HasCause, Rose};
@@ -10,12 +10,15 @@ ghost use Rattle.t7_feed.specs.Sending.{at_number};
 ghost use Rattle.t7_outcome.specs.Outcome.{text_of};
 ghost use Rattle.t7_outcome.specs.Steps.{GoesTo, Stopped, StoppedAt, WentOn};
 ghost use Rattle.t7_script.specs.declared.event.Event.TheVariants as kind;
-ghost use Rattle.t7_replay.specs.Kits.{ClearsListed, Does, Gives, IsPlaying, IsReady, KeepsSnap, Kit, Refuses, Stands, after_beat, beat_of, fault_in, handed, on_channel, waiting_lines};
+ghost use Rattle.t7_replay.specs.Calling.{cut_on};
+ghost use Rattle.t7_replay.specs.Kits.{Does, Gives, IsOfForm, IsPlaying, IsReady, KeepsSnap, Kit, Refuses, Stands};
+ghost use Rattle.t7_replay.specs.Kits.{after_beat, beat_of, fault_in, handed, on_channel, waiting_lines};
 ghost use Rattle.t7_replay.specs.Lines.{bad_lines, datagram_lines, day_full_line, under};
 ghost use Rattle.t7_replay.specs.Reports.{IsReported};
 ghost use Rattle.t7_replay.specs.Steps.{OfPlay, done_by, done_read, entered, step_at, stop_of};
 ghost use Rattle.t7_replay.specs.World.{World, new_world};
 
+use crate::caller::{Caller, any_on, cut_on};
 use crate::handing::{keep_datagram, keep_datagrams, put_replies};
 use crate::print::{put_bad, put_day_full};
 use crate::report::put_report;
@@ -35,19 +38,21 @@ use t7_script::{Event, LineRefusal, a_cleared_security_is_listed, read_event};
 /// The most lines of a script.
 const MOST_LINES: u32 = 200_000;
 
-/// The exchange and the member of a replay, the datagrams that were sent, the moment of the last TICK, whether bytes are
-/// printed, and how many lines were played. Contracts see it as `Kit`.
+/// The exchange and the member of a replay, the datagrams that were sent, the client from its first DIAL on, the moment of the last
+/// TICK, whether bytes are printed, and how many lines were played. Contracts see it as `Kit`.
 #[derive(Drop)]
 pub(crate) struct Replayer<'a> {
-    exchange: Exchange<'a>,
+    pub(crate) exchange: Exchange<'a>,
     member: Member<'a>,
     lives: Vec<Octets>,
     snaps: Vec<Octets>,
-    moment: Moment,
+    pub(crate) caller: Option<Caller<'a>>,
+    pub(crate) moment: Moment,
     raw: bool,
-    row: u32,
+    pub(crate) row: u32,
+    pub(crate) table: &'a Table,
     product: &'a Product,
-    alloc: Global,
+    pub(crate) alloc: Global,
 }
 
 impl<'a> Model for Replayer<'a> {
@@ -60,9 +65,11 @@ impl<'a> Model for Replayer<'a> {
       image = r.member;
       lives = r.lives.items;
       snaps = r.snaps.items;
+      caller = r.caller;
       moment = r.moment;
       raw = r.raw;
       row = r.row;
+      layouts = r.table.now;
       listing = r.product.now;
     } };
 }
@@ -85,9 +92,11 @@ impl<'a> Replayer<'a> {
             member: Member::new(alloc, table, product)?,
             lives: Vec::new(alloc),
             snaps: Vec::new(alloc),
+            caller: None,
             moment,
             raw: false,
             row: 0,
+            table,
             product,
             alloc,
         })
@@ -103,10 +112,12 @@ impl<'a> Replayer<'a> {
     /// Plays the next line: does what it asks for, and writes what it prints.
     pub(crate) fn act<S: Sink>(&mut self, line: &[u8], sink: &mut S) -> Result<(), Stop>
         requires { IsReady self.old }
-        ensures went { OnOk result ((terms : Terms) (world : World) → Stands terms world self.old → GoesTo (step_at terms world line.now) (λ after. Stands terms after self.new)) }
+        ensures went { OnOk result ((terms : Terms) (world : World) → Stands terms world self.old
+            → GoesTo (step_at terms world line.now) (λ after. Stands terms after self.new)) }
         ensures wrote { OnOk result ((terms : Terms) (world : World) → Stands terms world self.old
             → Grew (S.written sink.old) (S.written sink.new) (WentOn IsReported (step_at terms world line.now))) }
-        ensures stopped { IfErr result (λ stop. (terms : Terms) (world : World) → Stands terms world self.old → Stopped (step_at terms world line.now) stop) }
+        ensures stopped { IfErr result (λ stop. (terms : Terms) (world : World) → Stands terms world self.old
+            → Stopped (step_at terms world line.now) stop) }
         ensures stopped_at { IfErr result (λ stop. (terms : Terms) (world : World) → Stands terms world self.old
             → Grew (S.written sink.old) (S.written sink.new) (StoppedAt IsReported (step_at terms world line.now) stop)) }
         ensures only { IfErr result OfPlay }
@@ -166,7 +177,7 @@ impl<'a> Replayer<'a> {
     // Does an event, and answers the text that it prints.
     fn perform(&mut self, event: Event) -> Result<Vec<u8>, Stop>
         requires ready { IsPlaying self.old }
-        requires cleared { ClearsListed self.old.listing.securities event }
+        requires form { IsOfForm self.old.listing.securities event }
         ensures done { IfOk result (λ text. Does (λ terms world. done_by terms world event) self.old self.new text.items) }
         ensures stopped { IfErr result (Refuses (λ terms world. done_by terms world event) self.old) }
     {
@@ -181,8 +192,18 @@ impl<'a> Replayer<'a> {
             Event::Snap => self.snap(),
             Event::Deliver { feed, number } => self.deliver(feed, number),
             Event::Forge { feed, bytes } => self.forge(feed, bytes.bytes()),
+            Event::Dial { conn, session } => self.dial(conn, session),
+            Event::Order {
+                security,
+                side,
+                price,
+                qty,
+                client,
+            } => self.order(security, side, price, qty, client),
+            Event::Up { count } => self.up(count),
+            Event::Down { count } => self.down(count),
             Event::Show => self.show(),
-            _ => Err(Stop::Unbuilt { row: self.row }),
+            Event::List => self.list(),
         }
     }
 
@@ -212,8 +233,8 @@ impl<'a> Replayer<'a> {
         self.enter()
     }
 
-    // Opens a connection that isn't open, where fewer than 1,024 are. An error comes only where memory is wanting.
-    fn open_shut(&mut self, conn: u32) -> Result<(), AllocError>
+    /// Opens a connection that isn't open, where fewer than 1,024 are. An error comes only where memory is wanting.
+    pub(crate) fn open_shut(&mut self, conn: u32) -> Result<(), AllocError>
         requires { IsShut self.old.day conn }
         ensures { OnOk result (self.new ≡ record self.old { day = day_after self.old.day (Opened conn) }) }
     {
@@ -223,12 +244,12 @@ impl<'a> Replayer<'a> {
         self.exchange.opened(conn)
     }
 
-    // IN: bytes come on an open connection.
+    // IN: bytes come on an open connection that isn't the client's.
     fn input(&mut self, conn: u32, bytes: &[u8]) -> Result<Vec<u8>, Stop>
         ensures done { IfOk result (λ text. Does (λ terms world. done_by terms world (kind.Input conn bytes.now)) self.old self.new text.items) }
         ensures stopped { IfErr result (Refuses (λ terms world. done_by terms world (kind.Input conn bytes.now)) self.old) }
     {
-        if !self.exchange.is_open(conn) {
+        if any_on(&self.caller, conn) || !self.exchange.is_open(conn) {
             return Err(Stop::Script {
                 row: self.row,
                 why: ScriptWhy::Connection,
@@ -240,7 +261,7 @@ impl<'a> Replayer<'a> {
         self.enter()
     }
 
-    // CUT: an open connection closes.
+    // CUT: an open connection closes, and the client is cut where it is on it.
     fn cut(&mut self, conn: u32) -> Result<Vec<u8>, Stop>
         ensures done { IfOk result (λ text. Does (λ terms world. done_by terms world (kind.Cut conn)) self.old self.new text.items) }
         ensures stopped { IfErr result (Refuses (λ terms world. done_by terms world (kind.Cut conn)) self.old) }
@@ -251,6 +272,7 @@ impl<'a> Replayer<'a> {
                 why: ScriptWhy::Connection,
             });
         }
+        cut_on(&mut self.caller, conn);
         self.exchange.closed(conn);
         self.enter()
     }
@@ -296,7 +318,8 @@ impl<'a> Replayer<'a> {
     fn keep_beat(&mut self) -> Result<Vec<u8>, Stop>
         requires { IsPlaying self.old }
         ensures kit { OnOk result (self.new ≡ after_beat self.old) }
-        ensures text { IfOk result (λ text. text.items ≡ text_of (under self.old.raw (datagram_lines (codes "LIVE") (length self.old.lives) (beat_of self.old.day ∷ [])))) }
+        ensures text { IfOk result (λ text. text.items
+            ≡ text_of (under self.old.raw (datagram_lines (codes "LIVE") (length self.old.lives) (beat_of self.old.day ∷ [])))) }
         ensures only { IfErr result (λ stop. stop ≡ Stop.Memory) }
     {
         let mut out = [0u8; 1472];
@@ -393,8 +416,8 @@ impl<'a> Replayer<'a> {
         Ok(text)
     }
 
-    // Hands out what waits at the exchange after an event, which so is done. An error comes only where memory is wanting.
-    fn enter(&mut self) -> Result<Vec<u8>, Stop>
+    /// Hands out what waits at the exchange after an event, which so is done. An error comes only where memory is wanting.
+    pub(crate) fn enter(&mut self) -> Result<Vec<u8>, Stop>
         ensures done { IfOk result (λ text. (before : Kit) (event : Happening) → self.old ≡ record before { day = day_after before.day event }
             → Does (λ terms world. entered terms world event) before self.new text.items) }
         ensures only { IfErr result (λ stop. stop ≡ Stop.Memory) }
@@ -412,7 +435,15 @@ impl<'a> Replayer<'a> {
         ensures only { IfErr result (λ stop. stop ≡ Stop.Memory) }
     {
         let mut text = Vec::new(self.alloc);
-        if put_replies(self.alloc, &mut self.exchange, self.raw, &mut text).is_err() {
+        if put_replies(
+            self.alloc,
+            &mut self.exchange,
+            &mut self.caller,
+            self.raw,
+            &mut text,
+        )
+        .is_err()
+        {
             return Err(Stop::Memory);
         }
         if keep_datagrams(

@@ -18,7 +18,7 @@ struct Case {
     end: Result<Finish, Stop>,
 }
 
-static CASES: [Case; 10] = [
+static CASES: [Case; 13] = [
     Case {
         script: b"OPEN 1\nIN 1 180000006500000001000000307500001500000000000000\nSNAP\nIN 1 30000000680000000200000001000000e903000000000000090000000000000064000000000000003200000000000000\nSA 1\nLA 1\nSHOW",
         printed: b"SYNC 1\n1001 B 100 50 1\n",
@@ -63,6 +63,24 @@ static CASES: [Case; 10] = [
         script: b"OPEN 1\nIN 1 180000006500000001000000307500001500000000000000\nTICK 1\nRAW\nTICK 30000000000\nTICK 60000000000",
         printed: b"OUT 1 08000000cb000000\nCLOSE 1\n",
         end: Ok(Finish::End(0)),
+    },
+    Case {
+        script: b"DIAL 1 21\nUP *\nDOWN *\nUP *\nDOWN *\nORDER 1001 1 100 50 9\nORDER 1001 2 105 20 10\nUP *\nCLEAR 1001\nCLEAR 1002\nDOWN *\nLIST",
+        printed: b"RECOVERED 3\n1 NEW 1 9 1\n2 NEW 2 10 2\n3 CLEARED 1001 2\n",
+        end: Ok(Finish::End(4)),
+    },
+    Case {
+        script: b"DIAL 1 21\nUP *\nDOWN *\nORDER 1001 1 100 50 9\nUP *\nDOWN 20\nCUT 1\nLIST\nDIAL 2 21\nUP *\nDOWN *\nUP *\nDOWN *\nLIST",
+        printed: b"PARTIAL 0\nRECOVERED 1\n1 NEW 1 9 1\n",
+        end: Ok(Finish::End(1)),
+    },
+    Case {
+        script: b"DIAL 1 21\nUP 10\nCUT 1\nDIAL 1 21\nUP 25",
+        printed: b"",
+        end: Err(Stop::Script {
+            row: 5,
+            why: ScriptWhy::Bytes,
+        }),
     },
     Case {
         script: b"CLEAR 1001\nCUT 7",

@@ -15,4 +15,4 @@ returns-clause-done c =
     let is_open : IsOpen c.args.self.now.day c.args.conn = subst (λ (d : Day). IsOpen d c.args.conn) day (where_true c.is_open.result _ _ yes c.is_open.ensures) in
     after_event (λ text. text.items) (λ terms world. done_by terms world (kind.Input c.args.conn c.args.bytes.now)) kit _ c.enter.new.self
     (Bytes c.args.conn c.args.bytes.now kit.moment) c.enter.result c.enter.ensures.done (search rules)
-    (input_as kit c.args.conn c.args.bytes.now is_open)
+    (input_as kit c.args.conn c.args.bytes.now (search rules) is_open)
