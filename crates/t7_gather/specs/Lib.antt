@@ -1,0 +1,4 @@
+pub mod Clauses
+pub mod Gathering
+pub mod Steps
+pub mod Turns

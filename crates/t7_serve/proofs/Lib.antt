@@ -1,0 +1,10 @@
+pub mod Asking
+pub mod Counted
+pub mod Ending
+pub mod Genuine
+pub mod Going
+pub mod Keeping
+pub mod Sent
+pub mod Steps
+pub mod Taking
+pub mod Turning
