@@ -1,0 +1,11 @@
+pub mod Casting
+pub mod Cycles
+pub mod Fitting
+pub mod Following
+pub mod Hearing
+pub mod Knowing
+pub mod LastCycle
+pub mod Ordinary
+pub mod Standing
+pub mod TellingFacts
+pub mod ToldFacts

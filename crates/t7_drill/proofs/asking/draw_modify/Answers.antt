@@ -1,0 +1,13 @@
+use Rattle.std.proofs.Common.{◌+◌, arith, rules}
+use Rattle.t7_drill.proofs.Ordinary.{askable_as, modify_sayable, ordinary_as}
+use Rattle.t7_drill.proofs.asking.draw_modify.Goals as goal
+
+pub returns-clause-ordinary : goal.returns-clause-ordinary
+returns-clause-ordinary c = ordinary_as _ _ (search rules)
+    (modify_sayable c.args.number (1 + c.next-order.result) c.draw_price-price.result c.draw_quantity-qty.result c.requires.number
+    (let below = c.next-order.ensures.below in let last = c.requires.last in omega arith) c.draw_price-price.ensures.above c.draw_quantity-qty.ensures.above)
+
+pub returns-clause-askable : goal.returns-clause-askable
+returns-clause-askable c = askable_as _ _ (search rules)
+    (modify_sayable c.args.number (1 + c.next-order.result) c.draw_price-price.result c.draw_quantity-qty.result c.requires.number
+    (let below = c.next-order.ensures.below in let last = c.requires.last in omega arith) c.draw_price-price.ensures.above c.draw_quantity-qty.ensures.above)
