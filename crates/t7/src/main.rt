@@ -1,10 +1,11 @@
-//! The program: makes the real files and the real sink, runs what its words ask for, and ends with the answer's number.
+//! The program: makes the real files, sink, network and clock, runs what its words ask for, and ends with the answer's number.
 #![tactic(auto)]
 
 use std::alloc::{AllocError, Global};
 use std::process::ExitCode;
 use std::{env, io};
 use t7_base::{RealFiles, RealSink};
+use t7_net::{RealClock, RealLines, RealLink};
 use t7_outcome::{Stop, close};
 use t7_top::run;
 
@@ -29,6 +30,11 @@ fn main(rt: HostRuntime) -> ExitCode {
         Err(_) => Vec::new(alloc),
     };
     let mut files = RealFiles::new(&rt);
-    let status = run(alloc, &words, &mut files, &mut sink);
+    let mut link = RealLink::new(alloc, &rt);
+    let mut lines = RealLines::new(&rt);
+    let mut clock = RealClock::new(&rt);
+    let status = run(
+        alloc, &words, &mut files, &mut sink, &mut link, &mut lines, &mut clock,
+    );
     ExitCode::from(status.number())
 }

@@ -1,5 +1,16 @@
+pub mod Doing
+pub mod Exercising
+pub mod Following
+pub mod Gathering
+pub mod Growing
 pub mod Listing
+pub mod Performing
 pub mod Reading
+pub mod Renaming
 pub mod Replaying
+pub mod Sending
+pub mod Serving
+pub mod Taken
 pub mod Telling
 pub mod Whole
+pub mod Working

@@ -19,9 +19,9 @@ use Rattle.t7_outcome.specs.Performing.{WroteSink}
 use Rattle.t7_outcome.specs.Steps.{OfPrint}
 use Rattle.t7_outcome.proofs.Lines.{fronts_all, spelled_says}
 use Rattle.t7_records.specs.Records.{records_of}
-use Rattle.t7_replay.specs.Reports.{Moment, IsReported}
+use Rattle.t7_top.specs.Moments.{Moment, IsReported}
 use Rattle.t7_top.specs.Check.{listed, listing, template_line}
-use Rattle.t7_top.specs.Replay.{checked}
+use Rattle.t7_top.specs.Refusals.{checked}
 use Rattle.t7_top.proofs.Reading.{Read, none_written, where_read}
 
 pieces : (f i n z e : List ℕ) → f ++ 32 ∷ i ++ 32 ∷ n ++ 32 ∷ z ++ e ≡ (f ++ 32 ∷ [] ++ i ++ 32 ∷ [] ++ n ++ 32 ∷ [] ++ z) ++ e

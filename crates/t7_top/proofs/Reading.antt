@@ -3,7 +3,7 @@ use Rattle.std.proofs.Common.{◌≡◌, ◌≢◌, ◌≤◌, ℕ, List, [], �
 use Rattle.t7_base.specs.Listing.{Listing}
 use Rattle.t7_base.specs.Outside.{Begins, Grew, Rose}
 use Rattle.t7_base.specs.ProductFile.{ProductFault, fault_of as product_fault_of, product_of}
-use Rattle.t7_base.proofs.Grown.{grew_nothing, grew_then}
+use Rattle.t7_base.proofs.Grown.{grew_as, grew_nothing, grew_then}
 use Rattle.t7_layout.specs.Faults.{fault_of}
 use Rattle.t7_layout.specs.Layouts.{Layout}
 use Rattle.t7_layout.specs.Tables.{table_of}
@@ -11,14 +11,15 @@ use Rattle.t7_layout.specs.declared.words.TableFault.{TableFault}
 use Rattle.t7_outcome.specs.declared.ending.Status.{Status}
 use Rattle.t7_outcome.specs.declared.ending.Status.TheVariants as status
 use Rattle.t7_outcome.specs.declared.ending.Stop.{Stop}
-use Rattle.t7_outcome.specs.declared.ending.Stop.TheVariants.{Layout as LayoutStop, Product, WriteFault, Memory}
+use Rattle.t7_outcome.specs.declared.ending.Stop.TheVariants.{Layout as LayoutStop, Product, ReadFault, WriteFault, NetFault, Memory}
 use Rattle.t7_outcome.specs.Ending.{Ended, status_of}
-use Rattle.t7_outcome.specs.Outcome.{Outcome, Part, Held, Given, Where, Asked, AskedOf, Ends, Spelled, Wrote, fetched, followed, taking}
+use Rattle.t7_outcome.specs.Outcome.{Outcome, Part, Held, Given, Where, Asked, AskedOf, Ends, Fronts, Spelled, Wrote, WroteLines, fetched, followed, taking, text_of}
 use Rattle.t7_outcome.specs.Performing.{TookFiles, WroteSink}
 use Rattle.t7_outcome.proofs.Lines.{fronts_none}
+use Rattle.t7_outcome.proofs.Taking.{took_none}
 use Rattle.t7_records.specs.Records.{records_of}
-use Rattle.t7_replay.specs.Reports.{Moment, IsReported}
-use Rattle.t7_top.specs.Replay.{RefusesProduct, RefusesTable, checked, checked_product}
+use Rattle.t7_top.specs.Moments.{Moment, IsReported}
+use Rattle.t7_top.specs.Refusals.{RefusesProduct, RefusesTable, checked, checked_product}
 
 abbrev pub Read : Option Held → List ℕ → List ℕ → Type 0
 Read o name bytes = IfSome o (λ h. fetched name h ≡ Ok bytes)
@@ -48,12 +49,12 @@ pub none_written : (plain : Outcome Moment) → Wrote IsReported plain (Err Memo
 none_written plain = ([], [], fronts_none IsReported plain.parts, ([], refl), refl)
 
 -- a refused table
-table_ends : (plain later : Outcome Moment) (fault : Option TableFault) (stop : Stop) → plain.end ≡ (checked fault later).end → RefusesTable fault stop → Ends plain (Err stop)
+pub table_ends : (plain later : Outcome Moment) (fault : Option TableFault) (stop : Stop) → plain.end ≡ (checked fault later).end → RefusesTable fault stop → Ends plain (Err stop)
 table_ends plain later fault (LayoutStop found) same is = same ∙ ap (λ (f : Option TableFault). (checked f later).end) is
 table_ends plain later fault Memory same is = tt
 table_ends plain later fault stop same is = absurd is
 
-table_wrote : (plain later : Outcome Moment) (fault : Option TableFault) (stop : Stop) → plain.parts ≡ (checked fault later).parts → RefusesTable fault stop
+pub table_wrote : (plain later : Outcome Moment) (fault : Option TableFault) (stop : Stop) → plain.parts ≡ (checked fault later).parts → RefusesTable fault stop
     → Wrote IsReported plain (Err stop) []
 table_wrote plain later fault (LayoutStop found) same is =
     ([], subst (λ (l : List (Part Moment)). Spelled IsReported l []) (sym (same ∙ ap (λ (f : Option TableFault). (checked f later).parts) is)) refl, refl)
@@ -82,13 +83,13 @@ table_refused o p table rows later stop n read is =
     (ap (λ (r : Result (List ℕ) Stop). (followed r (λ found. checked (fault_of (records_of found)) (later (table_of (records_of found)) g))).parts) whole) is))
 
 -- a refused product file
-product_ends : (plain later : Outcome Moment) (fault : Option ProductFault) (stop : Stop) → plain.end ≡ (checked_product fault later).end → RefusesProduct fault stop
+pub product_ends : (plain later : Outcome Moment) (fault : Option ProductFault) (stop : Stop) → plain.end ≡ (checked_product fault later).end → RefusesProduct fault stop
     → Ends plain (Err stop)
 product_ends plain later fault (Product row why) same is = same ∙ ap (λ (f : Option ProductFault). (checked_product f later).end) is
 product_ends plain later fault Memory same is = tt
 product_ends plain later fault stop same is = absurd is
 
-product_wrote : (plain later : Outcome Moment) (fault : Option ProductFault) (stop : Stop) → plain.parts ≡ (checked_product fault later).parts → RefusesProduct fault stop
+pub product_wrote : (plain later : Outcome Moment) (fault : Option ProductFault) (stop : Stop) → plain.parts ≡ (checked_product fault later).parts → RefusesProduct fault stop
     → Wrote IsReported plain (Err stop) []
 product_wrote plain later fault (Product row why) same is =
     ([], subst (λ (l : List (Part Moment)). Spelled IsReported l []) (sym (same ∙ ap (λ (f : Option ProductFault). (checked_product f later).parts) is)) refl, refl)
@@ -187,3 +188,96 @@ files_more o plain next name named ended a b c m n k is one below rest = record 
         let g : Given = record { files = h } in
         grew_then a b c (λ ns. ns ≡ name ∷ []) (Asked (next g) (status_of ended)) (Asked (plain g) (status_of ended)) one took
         (λ xs ys first later. asked_more (plain g) (next g) name (status_of ended) xs ys is first later)
+
+-- What the sink got where a file was read: that of what follows it, when the outcome behind the file is this.
+pub sink_behind : (o : Option Held) (plain next : Given → Outcome Moment) (ended : Ended) (p q : Option (List ℕ)) (n m : ℕ)
+    → Where o (λ g. ((plain g).end ≡ (next g).end) × ((plain g).parts ≡ (next g).parts))
+    → WroteSink IsReported next ended o p q n m → WroteSink IsReported plain ended o p q n m
+sink_behind o plain next ended p q n m is sink = record { end = ends_behind o is sink.end; wrote = wrote_behind o is sink.wrote; count = sink.count; fault = sink.fault }
+  where
+    ends_same : (a b : Outcome Moment) (ended : Ended) → a.end ≡ b.end → Ends b ended → Ends a ended
+    ends_same a b (Err ReadFault) same ends = tt
+    ends_same a b (Err WriteFault) same ends = tt
+    ends_same a b (Err NetFault) same ends = tt
+    ends_same a b (Err Memory) same ends = tt
+    ends_same a b ended same ends = same ∙ ends
+
+    wrote_same : (a b : Outcome Moment) (ended : Ended) (w : List ℕ) → a.parts ≡ b.parts → Wrote IsReported b ended w → Wrote IsReported a ended w
+    wrote_same a b (Err WriteFault) w same wrote = subst (λ (l : List (Part Moment)). (lines : _) × Fronts IsReported l lines × Begins w (text_of lines)) (sym same) wrote
+    wrote_same a b (Err ReadFault) w same wrote = subst (λ (l : List (Part Moment)). WroteLines IsReported l w) (sym same) wrote
+    wrote_same a b (Err NetFault) w same wrote = subst (λ (l : List (Part Moment)). WroteLines IsReported l w) (sym same) wrote
+    wrote_same a b (Err Memory) w same wrote = subst (λ (l : List (Part Moment)). WroteLines IsReported l w) (sym same) wrote
+    wrote_same a b ended w same wrote = subst (λ (l : List (Part Moment)). (lines : _) × Spelled IsReported l lines × (w ≡ text_of lines)) (sym same) wrote
+
+    ends_behind : (o : Option Held) → Where o (λ g. ((plain g).end ≡ (next g).end) × ((plain g).parts ≡ (next g).parts)) → Where o (λ g. Ends (next g) ended)
+        → Where o (λ g. Ends (plain g) ended)
+    ends_behind None is ends = tt
+    ends_behind (Some h) is ends = let g : Given = record { files = h } in ends_same (plain g) (next g) ended is.0 ends
+
+    wrote_behind : (o : Option Held) → Where o (λ g. ((plain g).end ≡ (next g).end) × ((plain g).parts ≡ (next g).parts))
+        → Where o (λ g. Grew p q (Wrote IsReported (next g) ended)) → Where o (λ g. Grew p q (Wrote IsReported (plain g) ended))
+    wrote_behind None is wrote = tt
+    wrote_behind (Some h) is wrote =
+        let g : Given = record { files = h } in
+        grew_as p q (Wrote IsReported (next g) ended) (Wrote IsReported (plain g) ended) wrote (λ w one. wrote_same (plain g) (next g) ended w is.1 one)
+
+-- behind a table that is whole
+pub sink_behind_table : (o : Option Held) (table rows : List ℕ) (layouts : List Layout) (later : List Layout → Given → Outcome Moment) (ended : Ended) (p q : Option (List ℕ)) (n m : ℕ)
+    → layouts ≡ table_of (records_of rows) → Read o table rows → fault_of (records_of rows) ≡ None → WroteSink IsReported (later layouts) ended o p q n m
+    → WroteSink IsReported (λ g. taking table g.files (λ found. checked (fault_of (records_of found)) (later (table_of (records_of found)) g))) ended o p q n m
+sink_behind_table o table rows layouts later ended p q n m same read valid sink =
+    sink_behind o plain (later layouts) ended p q n m
+    (where_read o table rows (λ g. ((plain g).end ≡ (later layouts g).end) × ((plain g).parts ≡ (later layouts g).parts)) read
+    (λ h whole. (behind (λ (x : Outcome Moment). x.end) (record { files = h }) whole, behind (λ (x : Outcome Moment). x.parts) (record { files = h }) whole))) sink
+  where
+    plain : Given → Outcome Moment
+    plain g = taking table g.files (λ found. checked (fault_of (records_of found)) (later (table_of (records_of found)) g))
+
+    behind : {B : Type 0} (field : Outcome Moment → B) (g : Given) → fetched table g.files ≡ Ok rows
+        → field (followed (fetched table g.files) (λ found. checked (fault_of (records_of found)) (later (table_of (records_of found)) g))) ≡ field (later layouts g)
+    behind field g whole =
+        ap (λ (r : Result (List ℕ) Stop). field (followed r (λ found. checked (fault_of (records_of found)) (later (table_of (records_of found)) g)))) whole
+        ∙ ap (λ (f : Option TableFault). field (checked f (later (table_of (records_of rows)) g))) valid
+        ∙ ap (λ (l : List Layout). field (later l g)) (sym same)
+
+-- behind a product file that is whole
+pub sink_behind_product : (o : Option Held) (product items : List ℕ) (listing : Listing) (later : Listing → Given → Outcome Moment) (ended : Ended) (p q : Option (List ℕ)) (n m : ℕ)
+    → listing ≡ product_of (records_of items) → Read o product items → product_fault_of (records_of items) ≡ None → WroteSink IsReported (later listing) ended o p q n m
+    → WroteSink IsReported (λ g. taking product g.files (λ found. checked_product (product_fault_of (records_of found)) (later (product_of (records_of found)) g))) ended o p q n m
+sink_behind_product o product items listing later ended p q n m same read valid sink =
+    sink_behind o plain (later listing) ended p q n m
+    (where_read o product items (λ g. ((plain g).end ≡ (later listing g).end) × ((plain g).parts ≡ (later listing g).parts)) read
+    (λ h whole. (behind (λ (x : Outcome Moment). x.end) (record { files = h }) whole, behind (λ (x : Outcome Moment). x.parts) (record { files = h }) whole))) sink
+  where
+    plain : Given → Outcome Moment
+    plain g = taking product g.files (λ found. checked_product (product_fault_of (records_of found)) (later (product_of (records_of found)) g))
+
+    behind : {B : Type 0} (field : Outcome Moment → B) (g : Given) → fetched product g.files ≡ Ok items
+        → field (followed (fetched product g.files) (λ found. checked_product (product_fault_of (records_of found)) (later (product_of (records_of found)) g))) ≡ field (later listing g)
+    behind field g whole =
+        ap (λ (r : Result (List ℕ) Stop). field (followed r (λ found. checked_product (product_fault_of (records_of found)) (later (product_of (records_of found)) g)))) whole
+        ∙ ap (λ (f : Option ProductFault). field (checked_product f (later (product_of (records_of items)) g))) valid
+        ∙ ap (λ (l : Listing). field (later l g)) (sym same)
+
+-- What the sink got where the outcome is the same whatever the files hold.
+pub sink_plain : (o : Option Held) (plain : Outcome Moment) (ended : Ended) (p q : Option (List ℕ)) (n m : ℕ) → Ends plain ended → Grew p q (Wrote IsReported plain ended)
+    → n ≤ m → (ended ≡ Err WriteFault → Rose n m) → WroteSink IsReported (λ g. plain) ended o p q n m
+sink_plain o plain ended p q n m ends wrote below fault = record { end = held o (Ends plain ended) ends; wrote = held o (Grew p q (Wrote IsReported plain ended)) wrote; count = below; fault = fault }
+  where
+    held : (o : Option Held) (P : Type 0) → P → Where o (λ g. P)
+    held None P p = tt
+    held (Some h) P p = p
+
+none_asked : (answer : Status) → AskedOf [] answer []
+none_asked status.Done = refl
+none_asked answer = ([], refl)
+
+-- a command that asks for no file
+pub files_none : (o : Option Held) (a : Option (List (List ℕ))) (plain : Given → Outcome Moment) (ended : Ended) (n : ℕ) → ((g : Given) → (plain g).names ≡ []) → ended ≢ Err ReadFault
+    → TookFiles plain [] ended o a a n n
+files_none o a plain ended n none read = record {
+  took = took_none o a plain (status_of ended) none;
+  asked = grew_nothing a (AskedOf [] (status_of ended)) (none_asked (status_of ended));
+  count = omega arith;
+  fault = λ is. absurd (read is);
+}

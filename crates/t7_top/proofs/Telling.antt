@@ -1,18 +1,16 @@
 -- A text that is printed, and one that is cut off.
-use Rattle.std.proofs.Common.{◌≡◌, ◌≢◌, ◌≤◌, ℕ, List, [], ◌∷◌, ◌++◌, Option, None, Some, Ok, Err, refl, sym, ◌∙◌, ap, subst, arith}
-use Rattle.t7_base.specs.Outside.{Begins, Grew, Rose}
-use Rattle.t7_base.proofs.Grown.{grew_as, grew_nothing, grew_then}
+use Rattle.std.proofs.Common.{◌≡◌, ◌≢◌, ℕ, List, [], ◌∷◌, ◌++◌, Option, Ok, Err, refl, sym, ◌∙◌, ap, subst}
+use Rattle.t7_base.specs.Outside.{Begins, Grew}
+use Rattle.t7_base.proofs.Grown.{grew_as, grew_then}
 use Rattle.t7_outcome.specs.declared.ending.Finish.TheVariants.{Text}
-use Rattle.t7_outcome.specs.declared.ending.Status.{Status}
-use Rattle.t7_outcome.specs.declared.ending.Status.TheVariants as status
 use Rattle.t7_outcome.specs.declared.ending.Stop.TheVariants.{ReadFault, WriteFault}
-use Rattle.t7_outcome.specs.Ending.{Ended, status_of}
-use Rattle.t7_outcome.specs.Outcome.{AskedOf, Ends, Given, Held, Outcome, Says, Where, Wrote}
-use Rattle.t7_outcome.specs.Performing.{TookFiles, WroteSink}
+use Rattle.t7_outcome.specs.Ending.{Ended}
+use Rattle.t7_outcome.specs.Outcome.{Held, Says, Wrote}
+use Rattle.t7_outcome.specs.Performing.{TookFiles}
 use Rattle.t7_outcome.proofs.Lines.{begins_after, begins_more, fronts_all, spelled_says, text_of-one}
-use Rattle.t7_outcome.proofs.Taking.{took_none}
-use Rattle.t7_replay.specs.Reports.{Moment, IsReported}
+use Rattle.t7_top.specs.Moments.{IsReported}
 use Rattle.t7_top.specs.Text.{Tells, told}
+use Rattle.t7_top.proofs.Reading.{files_none}
 
 -- a write fault in the text, before its line feed
 pub cut_text : (a b : Option (List ℕ)) (text : List ℕ) → Grew a b (λ w. Begins w text) → Grew a b (λ w. Begins w (text ++ 10 ∷ []))
@@ -43,33 +41,12 @@ cut_feed a b c text whole feed =
     grew_then a b c (λ w. w ≡ text) (λ w. Begins w (10 ∷ [])) (λ w. Begins w (text ++ 10 ∷ [])) whole feed
     (λ xs ys x y. subst (λ (l : List ℕ). Begins (xs ++ ys) (l ++ 10 ∷ [])) x (begins_after xs ys (10 ∷ []) y))
 
--- what a command that prints a text did to the files and to the sink
-pub text_sink : (o : Option Held) (plain : Given → Outcome Moment) (text : List ℕ) (ended : Ended) (p q : Option (List ℕ)) (n m : ℕ) → ((g : Given) → plain g ≡ told text)
-    → Ends (told text) ended → Grew p q (Wrote IsReported (told text) ended) → n ≤ m → (ended ≡ Err WriteFault → Rose n m) → WroteSink IsReported plain ended o p q n m
-text_sink o plain text ended p q n m is ends wrote below fault = record { end = ends_told o; wrote = wrote_told o; count = below; fault = fault }
-  where
-    ends_told : (o : Option Held) → Where o (λ g. Ends (plain g) ended)
-    ends_told None = tt
-    ends_told (Some h) = subst (λ (x : Outcome Moment). Ends x ended) (sym (is (record { files = h }))) ends
-
-    wrote_told : (o : Option Held) → Where o (λ g. Grew p q (Wrote IsReported (plain g) ended))
-    wrote_told None = tt
-    wrote_told (Some h) = subst (λ (x : Outcome Moment). Grew p q (Wrote IsReported x ended)) (sym (is (record { files = h }))) wrote
-
-none_asked : (answer : Status) → AskedOf [] answer []
-none_asked status.Done = refl
-none_asked answer = ([], refl)
-
+-- what a command that prints a text did to the files
 tells_no_read : (text : List ℕ) (ended : Ended) (p q : Option (List ℕ)) → Tells text ended p q → ended ≢ Err ReadFault
 tells_no_read text (Ok finish) p q tells = λ is. cc
 tells_no_read text (Err WriteFault) p q tells = λ is. cc
 tells_no_read text (Err stop) p q tells = absurd tells
 
-pub text_files : (o : Option Held) (a : Option (List (List ℕ))) (plain : Given → Outcome Moment) (named : List (List ℕ)) (text : List ℕ) (ended : Ended) (p q : Option (List ℕ)) (n : ℕ)
-    → ((g : Given) → plain g ≡ told text) → named ≡ [] → Tells text ended p q → TookFiles plain named ended o a a n n
-text_files o a plain named text ended p q n is none tells = record {
-  took = took_none o a plain (status_of ended) (λ g. ap (λ (x : Outcome Moment). x.names) (is g));
-  asked = grew_nothing a (AskedOf named (status_of ended)) (subst (λ (l : List (List ℕ)). AskedOf l (status_of ended) []) (sym none) (none_asked (status_of ended)));
-  count = omega arith;
-  fault = λ read. absurd (tells_no_read text ended p q tells read);
-}
+pub text_files : (o : Option Held) (a : Option (List (List ℕ))) (text : List ℕ) (ended : Ended) (p q : Option (List ℕ)) (n : ℕ) → Tells text ended p q
+    → TookFiles (λ g. told text) [] ended o a a n n
+text_files o a text ended p q n tells = files_none o a (λ g. told text) ended n (λ g. refl) (tells_no_read text ended p q tells)

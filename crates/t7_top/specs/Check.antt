@@ -10,8 +10,8 @@ use Rattle.t7_outcome.specs.declared.ending.Stop.{Stop}
 use Rattle.t7_outcome.specs.declared.ending.Stop.TheVariants.{Layout as LayoutStop, ReadFault, WriteFault, TooLong, Memory}
 use Rattle.t7_outcome.specs.Outcome.{Outcome, Given, says, taking}
 use Rattle.t7_records.specs.Records.{records_of}
-use Rattle.t7_replay.specs.Reports.{Moment}
-use Rattle.t7_top.specs.Replay.{checked}
+use Rattle.t7_top.specs.Moments.{Moment}
+use Rattle.t7_top.specs.Refusals.{checked}
 
 -- the line of a template: its family, its id, its name and its length
 abbrev pub template_line : Layout → List ℕ

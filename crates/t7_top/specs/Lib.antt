@@ -1,6 +1,13 @@
+pub mod Answers
 pub mod Check
+pub mod Exercise
+pub mod Jobs
 pub mod Meaning
-pub mod Replay
+pub mod Moments
+pub mod Network
+pub mod Outcomes
+pub mod Refusals
 pub mod Text
+pub mod Using
 pub mod Whole
 pub mod Words

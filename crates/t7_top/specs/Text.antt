@@ -7,7 +7,7 @@ use Rattle.t7_outcome.specs.declared.ending.Status.TheVariants as status
 use Rattle.t7_outcome.specs.declared.ending.Stop.TheVariants.{WriteFault}
 use Rattle.t7_outcome.specs.Ending.{Ended}
 use Rattle.t7_outcome.specs.Outcome.{Outcome, Says}
-use Rattle.t7_replay.specs.Reports.{Moment}
+use Rattle.t7_top.specs.Moments.{Moment}
 
 -- the text with a line feed behind it is printed, and nothing more
 abbrev pub told : List ℕ → Outcome Moment

@@ -4,7 +4,7 @@ ghost use Rattle.t7_base.specs.Outside.{Begins, Grew, Rose};
 ghost use Rattle.t7_layout.specs.Texts.{table_text};
 ghost use Rattle.t7_outcome.specs.Performing.{TookFiles, WroteSink};
 ghost use Rattle.t7_outcome.specs.Steps.{OfPrint};
-ghost use Rattle.t7_replay.specs.Reports.{IsReported};
+ghost use Rattle.t7_top.specs.Moments.{IsReported};
 ghost use Rattle.t7_top.specs.Check.{OfCheck, listed};
 
 use crate::inputs::read_table;

@@ -4,7 +4,7 @@ ghost use Rattle.t7_base.specs.ProductFile.{fault_of as product_fault_of, produc
 ghost use Rattle.t7_layout.specs.Faults.{fault_of};
 ghost use Rattle.t7_layout.specs.Tables.{table_of};
 ghost use Rattle.t7_records.specs.Records.{records_of};
-ghost use Rattle.t7_top.specs.Replay.{RefusesProduct, RefusesTable};
+ghost use Rattle.t7_top.specs.Refusals.{RefusesProduct, RefusesTable};
 
 use std::alloc::Global;
 use t7_base::{Product, ProductRefusal};

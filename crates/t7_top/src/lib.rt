@@ -1,11 +1,10 @@
-//! The top call: what the words ask for, over the files and the sink that are handed in.
+//! The top call: what the words ask for, over the files, the sink, the network and the clock that are handed in.
 #![tactic(auto)]
 
 mod check;
+mod exercise;
 mod inputs;
-mod replay;
-#[cfg(test)]
-mod tests;
+mod jobs;
 mod text;
 mod top;
 mod words;

@@ -3,9 +3,9 @@ use Rattle.t7_layout.specs.Faults.{fault_of}
 use Rattle.t7_layout.specs.Tables.{table_of}
 use Rattle.t7_outcome.proofs.Taking.{sink_missed}
 use Rattle.t7_records.specs.Records.{records_of}
-use Rattle.t7_replay.specs.Reports.{IsReported}
 use Rattle.t7_top.specs.Check.{listing}
-use Rattle.t7_top.specs.Replay.{RefusesTable, checked}
+use Rattle.t7_top.specs.Moments.{IsReported}
+use Rattle.t7_top.specs.Refusals.{RefusesTable, checked}
 use Rattle.t7_top.proofs.Listing.{listed_sink}
 use Rattle.t7_top.proofs.Reading.{table_refused}
 use Rattle.t7_top.proofs.check.run_check.Goals as goal
