@@ -10,6 +10,3 @@ mod snapping;
 mod telling;
 
 pub use run::{PRODUCT, drill};
-
-#[cfg(test)]
-mod tests;

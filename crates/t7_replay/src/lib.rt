@@ -11,7 +11,5 @@ mod playing;
 mod print;
 mod replayer;
 mod report;
-#[cfg(test)]
-mod tests;
 
 pub use playing::play;
