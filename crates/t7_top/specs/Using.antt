@@ -34,8 +34,8 @@ binds_of listen feeds =
     ∷ record { feed = SnapB; address = feeds.snap_b; listen = listen }
     ∷ []
 
--- A job used the network, by how it ended. `replay` doesn't. `exchange` listens at its address and binds the feeds for sending, and takes COUNT events, each at one moment.
--- `member` binds them for listening, takes COUNT receipts, and sends nothing. `gather` dials its address.
+-- A job used the network, by how it ended. `replay` doesn't. `exchange` listens at its address and binds the feeds for sending, and takes COUNT events,
+-- each at one moment. `member` binds them for listening, takes COUNT receipts, and sends nothing; it wants memory only where it has taken none. `gather` dials its address.
 abbrev pub Uses : Job → Ended → Network → Network → Type 0
 Uses (Replay script) ended old new = new ≡ old
 Uses (Exchange listen feeds count) ended old new =
@@ -48,6 +48,7 @@ Uses (Member feeds count) ended old new =
     (new ≡ record old { bound = new.bound; receipts = new.receipts })
     × Grew old.bound new.bound (AsksFor (binds_of true feeds) ended)
     × Grew old.receipts new.receipts (TakesUpTo count ended)
+    × (ended ≡ Err Memory → new.receipts ≡ old.receipts)
 Uses (Gather address session count) ended old new =
     (new ≡ record old { asked = new.asked; events = new.events; sent = new.sent })
     × Grew old.asked new.asked (λ asks. (conn : Option ℕ) × (asks ≡ Dialed address conn ∷ []))
