@@ -69,7 +69,7 @@ class Explain(unittest.TestCase):
 
     def test_a_line_of_a_script(self):
         script = self.file("script", "SHOW\n\nDANCE\n")
-        status, out, _ = explain("--line", "unbuilt: row 3", SAMPLE, PRODUCT, script)
+        status, out, _ = explain("--line", "script: row 3: event", SAMPLE, PRODUCT, script)
         self.assertEqual((status, out.splitlines()[1]), (0, f"  {script}, line 3: DANCE"))
 
     def test_what_cannot_be_explained(self):
