@@ -8,7 +8,9 @@ stand in stamps, aside. Where no ports can be had it prints `skipped`. The statu
 
 import pathlib
 import re
+import resource
 import socket
+import struct
 import subprocess
 import sys
 import time
@@ -148,8 +150,64 @@ def garbage(program, ports):
     return ended("member that gets what is no datagram", member, 0, r"\AWAIT\nWAIT\nLINE LA 0 0\nLINE LB 0 0\nLINE SA 0 0\nLINE SB 0 0\nEND 2\n\Z")
 
 
+def logged_on(port):
+    """A connection on which session 21 is logged on, with the longest interval between heartbeats."""
+    connection = socket.create_connection(("127.0.0.1", port), timeout=SECONDS)
+    connection.sendall(struct.pack("<IH2xIII4x", 24, 101, 1, 60_000, 21))
+    if len(connection.recv(16, socket.MSG_WAITALL)) != 16:
+        raise OSError("the logon isn't answered")
+    return connection
+
+
+def too_long(program, ports):
+    """What is wrong with an exchange to which one connection gives 64 MiB of heartbeats, and then more, or None."""
+    listen, *feeds = [f"127.0.0.1:{port}" for port in ports]
+    exchange = started(program, "exchange", TABLE, PRODUCT, listen, *feeds, 1_000_000)
+    if not is_listening(ports[0]):
+        return "the exchange doesn't listen"
+    heartbeats = struct.pack("<IH2x", 8, 103) * 131_072
+    with logged_on(ports[0]) as connection:
+        connection.sendall((heartbeats * 64)[: (64 << 20) - 24])
+        time.sleep(0.5)
+        if exchange.poll() is not None:
+            return f"the exchange ended with {exchange.returncode} before 64 MiB were passed"
+        connection.sendall(heartbeats[:8])
+        return ended("exchange with more than 64 MiB on one connection", exchange, 9, r"\Atoo long\n\Z")
+
+
+def many_openings(program, ports):
+    """What is wrong with an exchange on which 1,024 connections are open and one more is opened, or None."""
+    listen, *feeds = [f"127.0.0.1:{port}" for port in ports]
+    least, most = resource.getrlimit(resource.RLIMIT_NOFILE)
+    if most < 3_000:
+        return None
+    resource.setrlimit(resource.RLIMIT_NOFILE, (max(least, 3_000), most))
+    exchange = started(program, "exchange", TABLE, PRODUCT, listen, *feeds, 1_000_000)
+    if not is_listening(ports[0]):
+        return "the exchange doesn't listen"
+    connections = []
+    try:
+        # (each is open before the next is opened: a silent one would be closed after some seconds)
+        for _ in range(1_024):
+            connections.append(logged_on(ports[0]) if not connections else socket.create_connection(("127.0.0.1", ports[0]), timeout=SECONDS))
+        further = socket.create_connection(("127.0.0.1", ports[0]), timeout=SECONDS)
+        connections.append(further)
+        further.settimeout(SECONDS)
+        if further.recv(1) != b"":
+            return "an opening beyond 1,024 got bytes"
+        connections[0].sendall(struct.pack("<IH2xI4x", 16, 102, 2))
+        if len(connections[0].recv(16, socket.MSG_WAITALL)) != 16:
+            return "the first of 1,024 connections isn't answered"
+    finally:
+        for connection in connections:
+            connection.close()
+        exchange.kill()
+        exchange.communicate()
+    return None
+
+
 def main(program):
-    for check in (day, refused, garbage, bad_peers):
+    for check in (day, refused, garbage, too_long, many_openings, bad_peers):
         ports = free_ports()
         if ports is None:
             print("skipped: no ports")
