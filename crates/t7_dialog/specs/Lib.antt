@@ -1,0 +1,4 @@
+pub mod Saying
+pub mod Asking
+pub mod Serving
+pub mod Coming
