@@ -1,13 +1,17 @@
 //! The proved reader and book beside plain Rust, on the same bytes in the same run: bench/run
 
 mod book;
+mod day;
+mod member;
 mod packet;
 mod table;
 
 use book::Book;
+use day::{Deliveries, day};
+use member::{Feed, Member, Windows};
 use packet::{Live, Message, Order, Packet, Previous, Trade};
 use std::time::{Duration, Instant};
-use table::Table;
+use table::{Channel, Table};
 
 unsafe extern "C" {
     fn t7_bench_datagrams(
@@ -27,6 +31,17 @@ unsafe extern "C" {
         numbers: *const i64,
         numbers_length: usize,
     ) -> u64;
+
+    fn t7_bench_member(
+        table: *const u8,
+        table_length: usize,
+        product: *const u8,
+        product_length: usize,
+        deliveries: *const u32,
+        deliveries_length: usize,
+        bytes: *const u8,
+        bytes_length: usize,
+    ) -> u64;
 }
 
 const SEGMENT: u32 = 7;
@@ -39,6 +54,12 @@ const ORDERS: usize = 20_000;
 const CALLS: usize = 100_000;
 const NUMBERS: usize = 9;
 const RUNS: usize = 7;
+const WINDOWS: Windows = Windows {
+    messages: 16_384,
+    packets: 2048,
+};
+/// Orders of the member's book, live datagrams of its day, and how often the day is run.
+const DAYS: [(usize, u32, usize); 3] = [(200, 200_000, 7), (5_000, 50_000, 5), (20_000, 20_000, 3)];
 
 /// Numbers that are drawn one after another.
 struct Draw(u64);
@@ -97,7 +118,7 @@ fn item_sum(item: &Live) -> u64 {
 fn plain_turn(table: &Table, datagrams: &[u8], walks: bool) -> u64 {
     let mut sum = 0u64;
     for bytes in datagrams.chunks_exact(SIZE) {
-        let Ok(packet) = Packet::read(table, SEGMENT, bytes) else {
+        let Ok(packet) = Packet::read(table, SEGMENT, Channel::Live, bytes) else {
             continue;
         };
         sum = sum.wrapping_add(if walks {
@@ -291,6 +312,44 @@ fn proved_book(product: &str, numbers: &[i64]) -> u64 {
     }
 }
 
+fn plain_member(text: &str, heads: &[u32], bytes: &[u8]) -> u64 {
+    let table = Table::read(text);
+    let mut member = Member::new(&table, SEGMENT, SECURITIES.to_vec(), WINDOWS);
+    let mut rest = bytes;
+    for head in heads {
+        let (datagram, others) = rest.split_at((head & 0xffff) as usize);
+        member.deliver(Feed::ALL[(head >> 16) as usize], datagram);
+        rest = others;
+    }
+    member.sum()
+}
+
+/// The product file of the member's day.
+fn member_product() -> String {
+    let Windows { messages, packets } = WINDOWS;
+    let securities = SECURITIES.map(|security| format!("security,{security},1\n"));
+    format!(
+        "product,{SEGMENT}\nwindow,{messages}\npackets,{packets}\ndatagram,1472\n{}session,21\n",
+        securities.concat()
+    )
+}
+
+fn proved_member(text: &str, product: &str, heads: &[u32], bytes: &[u8]) -> u64 {
+    // Each pointer is that of a slice of the length beside it, which outlives the call.
+    unsafe {
+        t7_bench_member(
+            text.as_ptr(),
+            text.len(),
+            product.as_ptr(),
+            product.len(),
+            heads.as_ptr(),
+            heads.len(),
+            bytes.as_ptr(),
+            bytes.len(),
+        )
+    }
+}
+
 fn timed(work: impl FnOnce() -> u64) -> (Duration, u64) {
     let start = Instant::now();
     let sum = std::hint::black_box(work());
@@ -337,12 +396,7 @@ fn compare(
     );
 }
 
-fn main() {
-    let [_, table, product] = &std::env::args().collect::<Vec<_>>()[..] else {
-        panic!("the words are a layout table and a product file");
-    };
-    let table = std::fs::read_to_string(table).unwrap();
-    let product = std::fs::read_to_string(product).unwrap();
+fn compare_datagrams(table: &str) {
     let bytes = datagrams();
     let read: usize = (0..TURNS as usize).map(|turn| DATAGRAMS - turn % 8).sum();
     for (title, walks) in [
@@ -355,18 +409,21 @@ fn main() {
             RUNS,
             || {
                 beyond(
-                    || proved_datagrams(&table, &bytes, walks, TURNS),
-                    || proved_datagrams(&table, &bytes, walks, 0),
+                    || proved_datagrams(table, &bytes, walks, TURNS),
+                    || proved_datagrams(table, &bytes, walks, 0),
                 )
             },
             || {
                 beyond(
-                    || plain_datagrams(&table, &bytes, walks, TURNS),
-                    || plain_datagrams(&table, &bytes, walks, 0),
+                    || plain_datagrams(table, &bytes, walks, TURNS),
+                    || plain_datagrams(table, &bytes, walks, 0),
                 )
             },
         );
     }
+}
+
+fn compare_books(product: &str) {
     let numbers = messages();
     let before = &numbers[..ORDERS * NUMBERS];
     compare(
@@ -375,10 +432,53 @@ fn main() {
         3,
         || {
             beyond(
-                || proved_book(&product, &numbers),
-                || proved_book(&product, before),
+                || proved_book(product, &numbers),
+                || proved_book(product, before),
             )
         },
         || beyond(|| plain_book(&numbers), || plain_book(before)),
     );
+}
+
+fn compare_members(table: &str) {
+    let product = member_product();
+    for (orders, datagrams, runs) in DAYS {
+        let (Deliveries { heads, bytes }, some, some_bytes) = day(orders, datagrams);
+        let (first, first_bytes) = (&heads[..some], &bytes[..some_bytes]);
+        compare(
+            &format!("deliveries to a member with {orders} orders"),
+            (heads.len() - some) as f64,
+            runs,
+            || {
+                beyond(
+                    || proved_member(table, &product, &heads, &bytes),
+                    || proved_member(table, &product, first, first_bytes),
+                )
+            },
+            || {
+                beyond(
+                    || plain_member(table, &heads, &bytes),
+                    || plain_member(table, first, first_bytes),
+                )
+            },
+        );
+    }
+}
+
+fn main() {
+    let words: Vec<String> = std::env::args().skip(1).collect();
+    let (table, product, only) = match &words[..] {
+        [table, product] => (table, product, None),
+        [table, product, only] => (table, product, Some(only.as_str())),
+        _ => panic!(
+            "the words are a layout table and a product file, and `member` for the member alone"
+        ),
+    };
+    let table = std::fs::read_to_string(table).unwrap();
+    let product = std::fs::read_to_string(product).unwrap();
+    if only.is_none() {
+        compare_datagrams(&table);
+        compare_books(&product);
+    }
+    compare_members(&table);
 }

@@ -1,6 +1,6 @@
-//! A datagram of the live channel in plain Rust: the same tests, and the same items read in place.
+//! A datagram of either channel in plain Rust: the same tests, and the same items read in place.
 
-use crate::table::{Name::*, Role, Table, Template};
+use crate::table::{Channel, Name::*, Role, Table, Template};
 
 #[derive(Clone, Copy, PartialEq, Eq, Debug)]
 pub enum Why {
@@ -66,6 +66,22 @@ pub enum Live {
     Beat(u32),
 }
 
+/// An item of a snapshot datagram.
+#[derive(Clone, Copy)]
+pub enum Snap {
+    Product(u32),
+    Instrument {
+        security: i64,
+        count: u16,
+    },
+    Order {
+        buys: bool,
+        price: i64,
+        stamp: u64,
+        qty: i64,
+    },
+}
+
 #[inline]
 fn half(bytes: &[u8], place: usize) -> u16 {
     u16::from_le_bytes([bytes[place], bytes[place + 1]])
@@ -122,13 +138,13 @@ fn header_fault(table: &Table, segment: u32, message: &[u8]) -> Option<Why> {
     None
 }
 
-fn message_fault(table: &Table, message: &[u8]) -> Option<Why> {
+fn message_fault(table: &Table, channel: Channel, message: &[u8]) -> Option<Why> {
     let template = template_of(table, message)?;
     let role = template.role?;
     if message.len() < template.size {
         return Some(Why::Length);
     }
-    if role == Role::PacketHeader {
+    if !role.is_of(channel) {
         return None;
     }
     fields_fault(template, message)
@@ -140,7 +156,12 @@ pub struct Packet<'a> {
 }
 
 impl<'a> Packet<'a> {
-    pub fn read(table: &'a Table, segment: u32, bytes: &'a [u8]) -> Result<Packet<'a>, Fault> {
+    pub fn read(
+        table: &'a Table,
+        segment: u32,
+        channel: Channel,
+        bytes: &'a [u8],
+    ) -> Result<Packet<'a>, Fault> {
         if bytes.len() > 1472 {
             return Err(Fault {
                 why: Why::TooLong,
@@ -164,7 +185,7 @@ impl<'a> Packet<'a> {
                     place,
                 });
             };
-            if let Some(why) = message_fault(table, message) {
+            if let Some(why) = message_fault(table, channel, message) {
                 return Err(Fault { why, place });
             }
             rest = after;
@@ -179,11 +200,70 @@ impl<'a> Packet<'a> {
             .number(ApplSeqNum, header) as u32
     }
 
+    pub fn bytes(&self) -> &'a [u8] {
+        self.bytes
+    }
+
     pub fn live(&self) -> LiveWalk<'a> {
         LiveWalk {
             table: self.table,
             rest: split(self.bytes).unwrap().1,
         }
+    }
+
+    pub fn snap(&self) -> SnapWalk<'a> {
+        SnapWalk::of(self.table, self.bytes)
+    }
+}
+
+#[derive(Clone, Copy)]
+pub struct SnapWalk<'a> {
+    table: &'a Table,
+    rest: &'a [u8],
+}
+
+impl<'a> SnapWalk<'a> {
+    /// The items of a datagram that was read.
+    pub fn of(table: &'a Table, bytes: &'a [u8]) -> SnapWalk<'a> {
+        SnapWalk {
+            table,
+            rest: split(bytes).unwrap().1,
+        }
+    }
+}
+
+impl Iterator for SnapWalk<'_> {
+    type Item = Snap;
+
+    #[inline]
+    fn next(&mut self) -> Option<Snap> {
+        while !self.rest.is_empty() {
+            let (message, after) = split(self.rest).unwrap();
+            self.rest = after;
+            if let Some(item) = snap_of(self.table, message) {
+                return Some(item);
+            }
+        }
+        None
+    }
+}
+
+fn snap_of(table: &Table, message: &[u8]) -> Option<Snap> {
+    let template = template_of(table, message)?;
+    let number = |name| template.number(name, message);
+    match template.role? {
+        Role::ProductSummary => Some(Snap::Product(number(LastMsgSeqNumProcessed) as u32)),
+        Role::InstrumentSummary => Some(Snap::Instrument {
+            security: number(SecurityID),
+            count: number(TotNoOrders) as u16,
+        }),
+        Role::SnapshotOrder => Some(Snap::Order {
+            buys: number(Side) == 1,
+            price: number(Price),
+            stamp: number(TrdRegTSTimePriority) as u64,
+            qty: number(DisplayQty),
+        }),
+        _ => None,
     }
 }
 
@@ -256,7 +336,7 @@ fn live_of(table: &Table, message: &[u8]) -> Option<Live> {
             Message::Summary(trade(AggressorSide, AggressorTime, LastPx))
         }
         Some(Role::Heartbeat) => return Some(Live::Beat(number(LastMsgSeqNumProcessed) as u32)),
-        Some(Role::PacketHeader) | None => return other_of(message),
+        _ => return other_of(message),
     };
     Some(Live::Message(number(MsgSeqNum) as u32, what))
 }

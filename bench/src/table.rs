@@ -13,6 +13,30 @@ pub enum Role {
     PartialOrderExecution,
     FullOrderExecution,
     ExecutionSummary,
+    ProductSummary,
+    InstrumentSummary,
+    SnapshotOrder,
+}
+
+/// The two kinds of services that market data is published on.
+#[derive(Clone, Copy, PartialEq, Eq)]
+pub enum Channel {
+    Live,
+    Snap,
+}
+
+impl Role {
+    /// Whether the messages of a channel are looked at for this role behind their header.
+    #[inline]
+    pub fn is_of(self, channel: Channel) -> bool {
+        match self {
+            Role::PacketHeader => false,
+            Role::ProductSummary | Role::InstrumentSummary | Role::SnapshotOrder => {
+                channel == Channel::Snap
+            }
+            _ => channel == Channel::Live,
+        }
+    }
 }
 
 /// Their fields.
@@ -34,11 +58,12 @@ pub enum Name {
     LastPx,
     AggressorTime,
     AggressorSide,
+    TotNoOrders,
 }
 
 use Name::*;
 
-const NAMES: [(&str, Name); 16] = [
+const NAMES: [(&str, Name); 17] = [
     ("MsgSeqNum", MsgSeqNum),
     ("ApplSeqNum", ApplSeqNum),
     ("MarketSegmentID", MarketSegmentID),
@@ -55,9 +80,10 @@ const NAMES: [(&str, Name); 16] = [
     ("LastPx", LastPx),
     ("AggressorTime", AggressorTime),
     ("AggressorSide", AggressorSide),
+    ("TotNoOrders", TotNoOrders),
 ];
 
-const ROLES: [(&str, Role); 10] = [
+const ROLES: [(&str, Role); 13] = [
     ("PacketHeader", Role::PacketHeader),
     ("Heartbeat", Role::Heartbeat),
     ("OrderAdd", Role::OrderAdd),
@@ -68,6 +94,9 @@ const ROLES: [(&str, Role); 10] = [
     ("PartialOrderExecution", Role::PartialOrderExecution),
     ("FullOrderExecution", Role::FullOrderExecution),
     ("ExecutionSummary", Role::ExecutionSummary),
+    ("ProductSummary", Role::ProductSummary),
+    ("InstrumentSummary", Role::InstrumentSummary),
+    ("SnapshotOrder", Role::SnapshotOrder),
 ];
 
 /// Where a field lies, and the number that stands for no value.
@@ -131,7 +160,10 @@ impl Template {
 
     // The number of a message counts in live messages alone.
     fn counts(&self, name: Name) -> bool {
-        name != MsgSeqNum || !matches!(self.role, Some(Role::PacketHeader | Role::Heartbeat))
+        name != MsgSeqNum
+            || self
+                .role
+                .is_some_and(|role| role != Role::Heartbeat && role.is_of(Channel::Live))
     }
 }
 
@@ -143,7 +175,7 @@ fn range_of(name: Name) -> (i64, i64) {
         Price | PrevPrice | LastPx => (-100_000_000_000_000_000, 100_000_000_000_000_000),
         DisplayQty | PrevDisplayQty | LastQty => (1, 1_000_000_000_000_000),
         TrdRegTSTimePriority | TrdRegTSPrevTimePriority | AggressorTime => (1, i64::MAX),
-        MarketSegmentID | SecurityID => (i64::MIN, i64::MAX),
+        MarketSegmentID | SecurityID | TotNoOrders => (i64::MIN, i64::MAX),
     }
 }
 
