@@ -62,9 +62,10 @@ module _ (conn session : ℕ) where
   -- one with a session that it may have
   pub moves_line : (core : Core) (other : ℕ) (was now : Line) → line_of core other ≡ Some was → (conn ≡ other → IsFor session was.session → IsFor session now.session)
       → Moves conn session core (with_line core other now)
-  moves_line core other was now is own =
-      (λ before. subst (λ (l : Option Line). IsFor session (session_at l)) (sym (get-insert core.lines other now conn)) (by (eq_by_cmp nat_cmp conn other) refl before),
-       line_written core other was now is)
+  moves_line core other was now is own = (
+    λ before. subst (λ (l : Option Line). IsFor session (session_at l)) (sym (get-insert core.lines other now conn)) (by (eq_by_cmp nat_cmp conn other) refl before),
+    line_written core other was now is,
+  )
     where
       by : (b : Bool) → eq_by_cmp nat_cmp conn other ≡ b → IsFor session (session_of core conn) → IsFor session (session_at (cond b (Some now) (line_of core conn)))
       by true e before =

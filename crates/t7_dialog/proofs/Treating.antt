@@ -28,7 +28,6 @@ use Rattle.t7_dialog.specs.Asking.{IsOf}
 use Rattle.t7_dialog.specs.Serving.{IsFor}
 use Rattle.t7_dialog.proofs.Moving.{Keeps, Moves, close_keeps, keeps_from, keeps_none, keeps_test, keeps_then, moves_as, moves_line, send_keeps}
 
-
 -- a request that is asked is of the client's session, where it comes on the client's connection
 abbrev pub IsOfStep : ℕ → Step → Type 0
 IsOfStep session step.NotYet = Unit {0}

@@ -77,6 +77,7 @@ module _ {K T : Type 0} (name : T → K) (cmp : K → K → Ordering) (total : I
       let round = rises_round cmp total mixed.0 mixed.1 (key, x.0) up in
       let others = Each-both (λ (e : K × ℕ). e.0 ≢ key) mixed.0 mixed.1
       (Each-weaker (λ (e : K × ℕ). cmp e.0 key ≡ Less) (λ (e : K × ℕ). e.0 ≢ key) (λ e less. less_differs e.0 key less) mixed.0 round.0)
-      (Each-weaker (λ (e : K × ℕ). cmp key e.0 ≡ Less) (λ (e : K × ℕ). e.0 ≢ key) (λ e less same. less_differs key e.0 less (sym same)) mixed.1 round.1) in
-      (differs key xs (each_listed (λ (e : K × ℕ). e.0 ≢ key) (names_of name xs) (mixed.0 ++ mixed.1) mixed.3 others),
-      names_once xs (mixed.0 ++ mixed.1) (rises_out cmp total mixed.0 mixed.1 (key, x.0) up) mixed.3)
+      (Each-weaker (λ (e : K × ℕ). cmp key e.0 ≡ Less) (λ (e : K × ℕ). e.0 ≢ key) (λ e less same. less_differs key e.0 less (sym same)) mixed.1 round.1) in (
+        differs key xs (each_listed (λ (e : K × ℕ). e.0 ≢ key) (names_of name xs) (mixed.0 ++ mixed.1) mixed.3 others),
+        names_once xs (mixed.0 ++ mixed.1) (rises_out cmp total mixed.0 mixed.1 (key, x.0) up) mixed.3,
+      )

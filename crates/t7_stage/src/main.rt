@@ -17,6 +17,7 @@ use t7_top::run;
 
 /// The most calls of the link and of the lines, and the most bytes of what each is asked and sends.
 const CALLS: usize = 4_096;
+
 const BYTES: usize = 1 << 20;
 
 /// The status where the stage can't be set, or what was sent can't be told.

@@ -83,7 +83,12 @@ impl Stage {
 }
 
 // The event of the link that a record says.
-fn event_of(alloc: Global, kind: &[u8], conn: &[u8], digits: &[u8]) -> Result<Option<LinkItem>, AllocError> {
+fn event_of(
+    alloc: Global,
+    kind: &[u8],
+    conn: &[u8],
+    digits: &[u8],
+) -> Result<Option<LinkItem>, AllocError> {
     if kind == b"quiet".as_slice() {
         return Ok(Some(LinkItem::Quiet));
     }
@@ -111,11 +116,20 @@ fn bytes_on(alloc: Global, conn: u32, digits: &[u8]) -> Result<Option<LinkItem>,
 }
 
 // The receipt of the lines that a record says.
-fn receipt_of(alloc: Global, kind: &[u8], feed: &[u8], digits: &[u8]) -> Result<Option<LineItem>, AllocError> {
+fn receipt_of(
+    alloc: Global,
+    kind: &[u8],
+    feed: &[u8],
+    digits: &[u8],
+) -> Result<Option<LineItem>, AllocError> {
     if kind == b"silent".as_slice() {
         return Ok(Some(LineItem::Quiet));
     }
-    match (kind == b"datagram".as_slice(), feed_of(feed), octets(alloc, digits)?) {
+    match (
+        kind == b"datagram".as_slice(),
+        feed_of(feed),
+        octets(alloc, digits)?,
+    ) {
         (true, Some(feed), Some(bytes)) => Ok(Some(LineItem::Datagram(feed, bytes))),
         _ => Ok(None),
     }

@@ -5,7 +5,12 @@ use t7_base::Feed;
 use t7_memory::{Asking, Binding, MemoryLines, MemoryLink, Sending};
 
 /// Prints what the link was asked and sent: `LISTEN ADDRESS` and `DIAL ADDRESS`, with `failed` behind where it failed, and then `SENT C HEX` and `CLOSE C`.
-pub(crate) fn tell_link(rt: &HostRuntime, alloc: Global, link: &MemoryLink, calls: usize) -> io::Result<()> {
+pub(crate) fn tell_link(
+    rt: &HostRuntime,
+    alloc: Global,
+    link: &MemoryLink,
+    calls: usize,
+) -> io::Result<()> {
     for at in 0..calls {
         if let Some((asking, address)) = link.asked_at(at) {
             let words = match asking {
@@ -19,7 +24,10 @@ pub(crate) fn tell_link(rt: &HostRuntime, alloc: Global, link: &MemoryLink, call
     }
     for at in 0..calls {
         match link.sent_at(at) {
-            Some((Sending::Bytes(conn), bytes)) => println!(rt; "SENT {conn} {}", hex::encode(alloc, bytes)?)?,
+            Some((Sending::Bytes(conn), bytes)) => println!(rt;
+                "SENT {conn} {}",
+                hex::encode(alloc, bytes)?
+            )?,
             Some((Sending::Close(conn), _)) => println!(rt; "CLOSE {conn}")?,
             None => return Ok(()),
         }
@@ -28,7 +36,12 @@ pub(crate) fn tell_link(rt: &HostRuntime, alloc: Global, link: &MemoryLink, call
 }
 
 /// Prints what the lines were asked and cast: `BIND FEED ADDRESS`, or `JOIN FEED ADDRESS` for listening, and then `CAST FEED HEX`.
-pub(crate) fn tell_lines(rt: &HostRuntime, alloc: Global, lines: &MemoryLines, calls: usize) -> io::Result<()> {
+pub(crate) fn tell_lines(
+    rt: &HostRuntime,
+    alloc: Global,
+    lines: &MemoryLines,
+    calls: usize,
+) -> io::Result<()> {
     for at in 0..calls {
         if let Some((Binding { feed, listen }, address)) = lines.asked_at(at) {
             let word = if listen { "JOIN" } else { "BIND" };
