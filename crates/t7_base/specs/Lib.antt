@@ -1,3 +1,4 @@
+pub mod FirstFault
 pub mod Listing
 pub mod Memory
 pub mod Outside

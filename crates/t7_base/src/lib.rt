@@ -3,6 +3,7 @@
 #![tactic(auto)]
 
 mod ids;
+mod laws;
 mod memory;
 mod note;
 mod octet;
@@ -14,6 +15,9 @@ mod real;
 mod values;
 
 pub use ids::{Channel, Feed, OrderId, SecurityId, SessionId, Side};
+pub use laws::{
+    puts_within_the_room_are_told, takes_within_the_room_are_told, the_first_fault_is_told,
+};
 pub use memory::{MemoryFiles, MemorySink};
 pub use octet::Octets;
 pub use outside::{Failed, Files, Sink, Taken};

@@ -1,4 +1,5 @@
 use super::*;
+use std::alloc::AllocError;
 use std::test::Fail;
 
 // The product file of two securities and two sessions.
@@ -56,21 +57,42 @@ fn refuses_with_the_first_fault(rt: HostRuntime) -> Result<(), Fail> {
     Ok(())
 }
 
-#[test]
-fn memory_forms_fail_where_they_are_told_to(rt: HostRuntime) -> Result<(), Fail> {
+// Files of one name, with room for so many calls and 8 bytes of names.
+fn one_file(rt: &HostRuntime, calls: usize, failing: &[u64]) -> Result<MemoryFiles, AllocError> {
     let alloc = rt.alloc();
     let mut held = Vec::new(alloc);
-    held.push((
-        String::from_str(alloc, "a")?,
-        Octets::new(b"xyz".to_vec(alloc)?),
-    ))?;
-    let mut files = MemoryFiles::new(alloc, held, 4, 8, [3].to_vec(alloc)?)?;
-    let mut into = Vec::new(alloc);
+    let name = String::from_str(alloc, "a")?;
+    held.push((name, Octets::new(b"xyz".to_vec(alloc)?)))?;
+    MemoryFiles::new(alloc, held, calls, 8, failing.to_vec(alloc)?)
+}
+
+#[test]
+fn memory_files_fail_where_they_are_told_to(rt: HostRuntime) -> Result<(), Fail> {
+    let mut files = one_file(&rt, 4, &[3])?;
+    let mut into = Vec::new(rt.alloc());
     assert_eq!(rt; files.take("a", 3, &mut into), Taken::Whole);
     assert_eq!(rt; into.as_slice(), b"xyz".as_slice());
     assert_eq!(rt; files.take("a", 2, &mut into), Taken::TooLong);
     assert_eq!(rt; files.take("a", 3, &mut into), Taken::Failed);
     assert_eq!(rt; files.take("b", 3, &mut into), Taken::Failed);
+    Ok(())
+}
+
+#[test]
+fn memory_files_tell_what_was_asked(rt: HostRuntime) -> Result<(), Fail> {
+    let mut files = one_file(&rt, 1, &[])?;
+    let mut into = Vec::new(rt.alloc());
+    assert_eq!(rt; files.take("b", 3, &mut into), Taken::Failed);
+    assert_eq!(rt; files.asked_count(), Some(1));
+    assert_eq!(rt; files.asked_at(0), Some(b"b".as_slice()));
+    assert_eq!(rt; files.take("a", 3, &mut into), Taken::Failed);
+    assert!(rt; files.asked_count().is_none());
+    Ok(())
+}
+
+#[test]
+fn a_memory_sink_fails_where_it_is_told_to(rt: HostRuntime) -> Result<(), Fail> {
+    let alloc = rt.alloc();
     let mut sink = MemorySink::new(alloc, 3, 8, [2].to_vec(alloc)?)?;
     assert_eq!(rt; sink.put(b"one"), Ok(()));
     assert_eq!(rt; sink.put(b"two"), Err(Failed));
