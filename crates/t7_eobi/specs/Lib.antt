@@ -6,3 +6,4 @@ pub mod Grammar
 pub mod Ranges
 pub mod Records
 pub mod Said
+pub mod Sizes

@@ -7,6 +7,7 @@ mod messages;
 mod packet;
 mod ranges;
 mod records;
+mod sizes;
 mod walks;
 mod write;
 
@@ -16,6 +17,7 @@ pub use laws::{
     the_first_fault_is_told, what_is_written_is_said,
 };
 pub use packet::Packet;
+pub use sizes::{message_size, snap_size};
 pub use walks::{Live, LiveWalk, Snap, SnapWalk};
 pub use write::{write_beat, write_header, write_public, write_snap};
 

@@ -12,11 +12,15 @@ ghost use Rattle.t7_eobi.specs.declared.walks.Live.TheVariants as items;
 ghost use Rattle.t7_eobi.specs.declared.walks.Snap.TheVariants as snaps;
 ghost use Rattle.t7_eobi.specs.Bytes.{IsKnown, IsPublic, IsResting, IsSecurity, IsSequence, IsSnap, beat_bytes, beat_fields, execution_fields, header_bytes, header_fields, order_fields, public_bytes, public_fields, role_for, security_of, side_number, snap_bytes, snap_fields, snap_role};
 ghost use Rattle.t7_eobi.specs.Said.{SaysHeader, SaysLive, SaysSnap};
+ghost use Rattle.t7_eobi.specs.Sizes.{message_size, role_size, snap_size};
 
 use crate::walks::Snap;
 use t7_base::{Price, Public, Qty, Resting, SecurityId, Side, Stamp};
 use t7_fields::{Number, write};
 use t7_layout::{FieldName, Role, Table};
+
+// The bytes of the longest message.
+const LONGEST: usize = 128;
 
 // Writes a message of a role of market data.
 #[tactic(auto, unfolding(t7_fields::specs::Writing::longest), using(crate::proofs::SayingFacts::written_length))]
@@ -25,6 +29,7 @@ fn write_role(table: &Table, role: Role, fields: &[(FieldName, Number)], out: &m
     requires family { family_of role ≡ Eobi }
     requires said { AreSaid table.now role fields.now }
     ensures length { result ≡ length (message_of table.now role fields.now) }
+    ensures size { result ≡ role_size table.now role }
     ensures some { 8 ≤ result }
     ensures short { result ≤ 128 }
     ensures bytes { out.new ≡ message_of table.now role fields.now ++ drop result out.old }
@@ -33,6 +38,28 @@ fn write_role(table: &Table, role: Role, fields: &[(FieldName, Number)], out: &m
 {
     let _template = table.role(role);
     write(table, role, fields, out)
+}
+
+// Writes a message of a role of market data where there is room for it, maybe for no more.
+fn write_within(table: &Table, role: Role, fields: &[(FieldName, Number)], out: &mut [u8]) -> usize
+    requires room { role_size table.now role ≤ length out.old }
+    requires family { family_of role ≡ Eobi }
+    requires said { AreSaid table.now role fields.now }
+    ensures length { result ≡ length (message_of table.now role fields.now) }
+    ensures size { result ≡ role_size table.now role }
+    ensures some { 8 ≤ result }
+    ensures short { result ≤ 128 }
+    ensures bytes { out.new ≡ message_of table.now role fields.now ++ drop result out.old }
+    ensures template { IfSome (find_role table.now role) (λ t. result ≡ t.size) }
+    ensures same_length { length out.new ≡ length out.old }
+{
+    if LONGEST <= out.len() {
+        return write_role(table, role, fields, out);
+    }
+    let mut bytes = [0u8; LONGEST];
+    let size = write_role(table, role, fields, &mut bytes);
+    out[..size].copy_from_slice(&bytes[..size]);
+    size
 }
 
 // What is known of every table.
@@ -207,12 +234,13 @@ fn write_fields(
     fields: &[(FieldName, Number)],
     out: &mut [u8],
 ) -> usize
-    requires room { 128 ≤ length out.old }
+    requires room { message_size table.now message.now ≤ length out.old }
     requires number { IsSequence number }
     requires ranged { IsPublic message.now }
     requires role { role ≡ role_for message.now }
     requires fields { fields.now ≡ public_fields number message.now }
     ensures length { result ≡ length (public_bytes table.now number message.now) }
+    ensures size { result ≡ message_size table.now message.now }
     ensures some { 8 ≤ result }
     ensures short { result ≤ 128 }
     ensures bytes { out.new ≡ public_bytes table.now number message.now ++ drop result out.old }
@@ -220,7 +248,7 @@ fn write_fields(
     ensures same_length { length out.new ≡ length out.old }
     ensures says { SaysLive table.now (items.Message number message.now) (public_bytes table.now number message.now) }
 {
-    write_role(whole(table), role, fields, out)
+    write_within(whole(table), role, fields, out)
 }
 
 /// Writes the header of a datagram with this number, for the product of this MarketSegmentID, and answers the length of
@@ -232,6 +260,7 @@ pub fn write_header(table: &Table, segment: u32, number: u32, out: &mut [u8]) ->
     requires segment_most { segment ≤ 2_147_483_647 }
     requires number { IsSequence number }
     ensures length { result ≡ length (header_bytes table.now segment number) }
+    ensures size { result ≡ role_size table.now role.PacketHeader }
     ensures some { 8 ≤ result }
     ensures short { result ≤ 128 }
     ensures bytes { out.new ≡ header_bytes table.now segment number ++ drop result out.old }
@@ -243,14 +272,15 @@ pub fn write_header(table: &Table, segment: u32, number: u32, out: &mut [u8]) ->
     write_role(whole(table), Role::PacketHeader, &fields, out)
 }
 
-/// Writes a message of the live channel with its number, and answers the length of its template.
+/// Writes a message of the live channel with its number where there is room for it, maybe for no more, and answers the length of its template.
 #[tactic(auto, unfolding(crate::specs::Bytes::role_for, crate::specs::Bytes::public_fields))]
 pub fn write_public(table: &Table, number: u32, message: &Public, out: &mut [u8]) -> usize
-    requires room { 128 ≤ length out.old }
+    requires room { message_size table.now message.now ≤ length out.old }
     requires some { message.now ≢ public.Other }
     requires number { IsSequence number }
     requires security { IsSecurity (security_of message.now) }
     ensures length { result ≡ length (public_bytes table.now number message.now) }
+    ensures size { result ≡ message_size table.now message.now }
     ensures some { 8 ≤ result }
     ensures short { result ≤ 128 }
     ensures bytes { out.new ≡ public_bytes table.now number message.now ++ drop result out.old }
@@ -362,9 +392,10 @@ pub fn write_public(table: &Table, number: u32, message: &Public, out: &mut [u8]
 }
 
 // The role of an item of the snapshot channel.
-#[tactic(auto, unfolding(crate::specs::Bytes::snap_role))]
-fn snap_role(snap: &Snap) -> Role
-    ensures { result ≡ snap_role snap.now }
+#[tactic(auto, unfolding(crate::specs::Bytes::snap_role, t7_layout::specs::Roles::family_of))]
+pub(crate) fn snap_role(snap: &Snap) -> Role
+    ensures role { result ≡ snap_role snap.now }
+    ensures family { family_of result ≡ Eobi }
 {
     match snap {
         Snap::Product(_) => Role::ProductSummary,
@@ -394,10 +425,11 @@ fn write_snap_fields(
     fields: &[(FieldName, Number)],
     out: &mut [u8],
 ) -> usize
-    requires room { 128 ≤ length out.old }
+    requires room { snap_size table.now snap.now ≤ length out.old }
     requires ranged { IsSnap snap.now }
     requires fields { fields.now ≡ snap_fields snap.now }
     ensures length { result ≡ length (snap_bytes table.now snap.now) }
+    ensures size { result ≡ snap_size table.now snap.now }
     ensures some { 8 ≤ result }
     ensures short { result ≤ 128 }
     ensures bytes { out.new ≡ snap_bytes table.now snap.now ++ drop result out.old }
@@ -405,15 +437,16 @@ fn write_snap_fields(
     ensures same_length { length out.new ≡ length out.old }
     ensures says { SaysSnap table.now snap.now (snap_bytes table.now snap.now) }
 {
-    write_role(whole(table), snap_role(snap), fields, out)
+    write_within(whole(table), snap_role(snap), fields, out)
 }
 
-/// Writes an item of the snapshot channel, and answers the length of its template. MsgSeqNum is left unset.
+/// Writes an item of the snapshot channel where there is room for it, maybe for no more, and answers the length of its template. MsgSeqNum is left unset.
 #[tactic(auto, unfolding(crate::specs::Bytes::snap_fields))]
 pub fn write_snap(table: &Table, snap: &Snap, out: &mut [u8]) -> usize
-    requires room { 128 ≤ length out.old }
+    requires room { snap_size table.now snap.now ≤ length out.old }
     requires known { IsKnown snap.now }
     ensures length { result ≡ length (snap_bytes table.now snap.now) }
+    ensures size { result ≡ snap_size table.now snap.now }
     ensures some { 8 ≤ result }
     ensures short { result ≤ 128 }
     ensures bytes { out.new ≡ snap_bytes table.now snap.now ++ drop result out.old }
