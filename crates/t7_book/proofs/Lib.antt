@@ -14,3 +14,14 @@ pub mod RunningDay
 pub mod Few
 pub mod Abouts
 pub mod Lefts
+pub mod Numbered
+pub mod Ids
+pub mod Ends
+pub mod Kepts
+pub mod Clearing
+pub mod NextBook
+pub mod Counting
+pub mod Named
+pub mod NamedDay
+pub mod Books
+pub mod Bounds

@@ -49,7 +49,7 @@ pub gone_from : (gone orders : List Order) → Distinct gone → Each (λ y. IsI
 gone_from [] orders d all = tt
 gone_from (y ∷ ys) orders d all = (all.0, d.0, gone_from ys orders d.1 all.1)
 
-gone_after : (y : Order) (gone orders : List Order) → Each (λ z. z.rest.stamp ≢ y.rest.stamp) gone → AreGone gone orders → AreGone gone (without y.rest orders)
+pub gone_after : (y : Order) (gone orders : List Order) → Each (λ z. z.rest.stamp ≢ y.rest.stamp) gone → AreGone gone orders → AreGone gone (without y.rest orders)
 gone_after y [] orders differ all = tt
 gone_after y (z ∷ zs) orders differ all =
     (in_filter (λ w. not (same_name y.rest w.rest)) z orders (ap not (other_name y.rest z.rest differ.0)) all.0, all.1, gone_after y zs orders differ.1 all.2)

@@ -11,10 +11,10 @@ use Rattle.t7_book.specs.Orders.{Roster, roster_of, BookState, empty_book, same_
 use Rattle.t7_book.specs.Commands.{IsForProduct, new_stamp, new_order, keeps_priority, with_total, changed_order, refusal, change_refusal}
 use Rattle.t7_book.specs.Trades.{trades}
 use Rattle.t7_book.specs.Steps.{Step, change, modification, steps, stamp_after_change, last_stamp_after, book_after}
-use Rattle.t7_book.specs.Trace.{trace, trace_from, book_left, list_at, market, AreAcceptedFrom, AreAccepted}
-use Rattle.t7_book.specs.Laws.{IsWhole, MarketsAreBooks}
+use Rattle.t7_book.specs.Trace.{trace, trace_from, book_left, list_at, AreAcceptedFrom, AreAccepted}
+use Rattle.t7_book.specs.Laws.{IsWhole}
 use Rattle.t7_book.proofs.TradeLemmas.{length_without}
-use Rattle.t7_book.proofs.Lists.{IsIn, each_at, each_weaker, each_filter, distinct_filter, found_in}
+use Rattle.t7_book.proofs.Lists.{IsIn, each_at, each_filter, distinct_filter, found_in}
 use Rattle.t7_book.proofs.Fit.{Known, IsFit, fit_filter, fit_renewed, whole_total}
 use Rattle.t7_book.proofs.Makers.{trades_makers, each_in}
 use Rattle.t7_book.proofs.Running.{Links, Run, run_append, run_change, run_arrival, run_cancellation, run_deletions, gone_from, room_from, above_from}
@@ -123,14 +123,3 @@ any_links roster = record {
   same = λ last orders fit y at qty. tt;
   modify = λ last orders fit y at price total stamp above. tt;
 }
-
-pub markets_are_books : MarketsAreBooks
-markets_are_books listing cs accepted n =
-    let last = (book_left (empty_book (roster_of listing)) cs).last_stamp in
-    let fit = fit_at Any (roster_of listing) last [] (trace listing cs) n (run_day Any listing (any_links (roster_of listing)) cs accepted) in
-    record {
-      in_order = fit.in_order;
-      once = fit.distinct;
-      whole = each_weaker (Known (roster_of listing) last) IsWhole (λ y known. known.whole) (market listing cs n) fit.known;
-      few = fit.few;
-    }

@@ -8,3 +8,5 @@ pub mod Laws
 pub mod Sound
 pub mod Walk
 pub mod About
+pub mod Numbers
+pub mod Kept

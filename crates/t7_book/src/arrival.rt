@@ -1,6 +1,9 @@
 //! An order comes into the book, a new one or one with a new stamp: it trades, and what is left of it rests.
 
-ghost use Rattle.std.specs.Prelude.{◌≡◌, ◌≤◌, ◌<◌, ◌-◌, ◌++◌, IfOk, IfNone, IfSome, OnOk, OnErr, [], length};
+ghost use Rattle.std.specs.Prelude.{◌≡◌, ◌≢◌, true, ◌≤◌, ◌<◌, ◌-◌, ◌++◌, IfOk, IfNone, IfSome, OnOk, OnErr, [], length};
+ghost use Rattle.t7_book.specs.Kept.{MayEnter, Stands};
+ghost use Rattle.t7_book.specs.Laws.{Each};
+ghost use Rattle.t7_book.specs.Numbers.{is_listed};
 ghost use Rattle.t7_book.specs.Orders.{without};
 ghost use Rattle.t7_book.specs.Trades.{trades, traded, fills};
 ghost use Rattle.t7_book.specs.Steps.{messages, list_after, arrival, change, crossing, summary};
@@ -9,7 +12,7 @@ use crate::commit::commit;
 use crate::orders::Orders;
 use crate::{Note, Order, Trade, order, trade};
 use std::alloc::{AllocError, Global};
-use t7_base::{Public, Qty, SecurityId};
+use t7_base::{Public, Qty};
 
 /// What is left of an incoming order after these trades.
 fn left_after(x: &Order, trades: &[Trade]) -> Option<Qty>
@@ -70,44 +73,49 @@ fn arrival_messages(alloc: Global, x: &Order, trades: &[Trade]) -> Result<Vec<Pu
 
 /// Carries out the trades, and lets what is left of the incoming order rest.
 #[tactic(auto, using(crate::proofs::StepLemmas::settled_some, crate::proofs::StepLemmas::settled_none))]
-fn settle(securities: &[SecurityId], orders: &mut Orders, x: &Order, trades: &[Trade])
-    requires within { traded trades.now ≤ x.now.rest.qty }
-    requires room { length orders.old < 20_000 }
-    ensures { orders.new ≡ list_after (crossing securities.now x.now trades.now orders.old) orders.old }
+fn settle(orders: &mut Orders, x: &Order, made: &[Trade])
+    requires made { made.now ≡ trades x.now.rest orders.old.list }
+    requires within { traded made.now ≤ x.now.rest.qty }
+    requires enters { MayEnter orders.old x.now }
+    ensures list { orders.new.list ≡ list_after (crossing orders.old.securities x.now made.now orders.old.list) orders.old.list }
+    ensures securities { orders.new.securities ≡ orders.old.securities }
 {
-    let left = left_after(x, trades);
-    trade::carry_out(orders, trades);
+    orders.apart();
+    let left = left_after(x, made);
+    trade::carry_out(orders, made);
     if let Some(left) = left {
-        orders.place(securities, order::with_left(x, left));
+        orders.place(&order::with_left(x, left));
     }
 }
 
 /// Lets an incoming order with these trades into the book.
-fn admit(securities: &[SecurityId], orders: &mut Orders, x: &Order, trades: &[Trade])
-    requires within { traded trades.now ≤ x.now.rest.qty }
-    requires room { length orders.old < 20_000 }
-    ensures { orders.new ≡ list_after (arrival securities.now x.now trades.now orders.old) orders.old }
+fn admit(orders: &mut Orders, x: &Order, made: &[Trade])
+    requires made { made.now ≡ trades x.now.rest orders.old.list }
+    requires within { traded made.now ≤ x.now.rest.qty }
+    requires enters { MayEnter orders.old x.now }
+    ensures list { orders.new.list ≡ list_after (arrival orders.old.securities x.now made.now orders.old.list) orders.old.list }
+    ensures securities { orders.new.securities ≡ orders.old.securities }
 {
-    if trades.is_empty() {
-        orders.place(securities, *x);
+    if made.is_empty() {
+        orders.place(x);
     } else {
-        settle(securities, orders, x, trades);
+        settle(orders, x, made);
     }
 }
 
 /// A new order comes into the book.
 #[tactic(auto, using(crate::proofs::StepLemmas::messages_arrival))]
 pub(crate) fn arrive(
-    securities: &[SecurityId],
     orders: &mut Orders,
     x: &Order,
     out: &mut Vec<Public>,
     notes: &mut Vec<Note>,
 ) -> Result<(), AllocError>
-    requires room { length orders.old < 20_000 }
-    ensures orders { OnOk result (orders.new ≡ list_after (arrival securities.now x.now (trades x.now.rest orders.old) orders.old) orders.old) }
-    ensures out { OnOk result (out.new.items ≡ out.old.items ++ messages (arrival securities.now x.now (trades x.now.rest orders.old) orders.old)) }
-    ensures notes { OnOk result (notes.new.items ≡ notes.old.items ++ fills (trades x.now.rest orders.old) x.now.total x.now.rest.qty) }
+    requires enters { MayEnter orders.old x.now }
+    ensures orders { OnOk result (orders.new.list ≡ list_after (arrival orders.old.securities x.now (trades x.now.rest orders.old.list) orders.old.list) orders.old.list) }
+    ensures out { OnOk result (out.new.items ≡ out.old.items ++ messages (arrival orders.old.securities x.now (trades x.now.rest orders.old.list) orders.old.list)) }
+    ensures notes { OnOk result (notes.new.items ≡ notes.old.items ++ fills (trades x.now.rest orders.old.list) x.now.total x.now.rest.qty) }
+    ensures securities { orders.new.securities ≡ orders.old.securities }
     ensures same_orders { OnErr result (orders.new ≡ orders.old) }
     ensures same_out { OnErr result (out.new.items ≡ out.old.items) }
     ensures same_notes { OnErr result (notes.new.items ≡ notes.old.items) }
@@ -117,7 +125,7 @@ pub(crate) fn arrive(
     let told = trade::fills(alloc, &trades, x.total, x.rest.qty)?;
     let messages = arrival_messages(alloc, x, &trades)?;
     commit(out, notes, &messages, &told)?;
-    admit(securities, orders, x, &trades);
+    admit(orders, x, &trades);
     Ok(())
 }
 
@@ -155,7 +163,6 @@ fn change_messages(
 /// The resting order y becomes x, with a new stamp.
 #[tactic(auto, using(crate::proofs::StepLemmas::messages_change, crate::proofs::StepLemmas::list_after_change, crate::proofs::TradeLemmas::trades_without))]
 pub(crate) fn change(
-    securities: &[SecurityId],
     orders: &mut Orders,
     y: &Order,
     x: &Order,
@@ -163,10 +170,14 @@ pub(crate) fn change(
     notes: &mut Vec<Note>,
 ) -> Result<(), AllocError>
     requires side { y.now.rest.side ≡ x.now.rest.side }
-    requires rests { length (without y.now.rest orders.old) < length orders.old }
-    ensures orders { let others = without y.now.rest orders.old in OnOk result (orders.new ≡ list_after (change securities.now y.now x.now (trades x.now.rest others) others) orders.old) }
-    ensures out { let others = without y.now.rest orders.old in OnOk result (out.new.items ≡ out.old.items ++ messages (change securities.now y.now x.now (trades x.now.rest others) others)) }
-    ensures notes { let others = without y.now.rest orders.old in OnOk result (notes.new.items ≡ notes.old.items ++ fills (trades x.now.rest others) x.now.total x.now.rest.qty) }
+    requires stands { Stands orders.old.list y.now }
+    requires listed { is_listed orders.old.securities x.now.rest.security ≡ true }
+    requires id { x.now.id ≡ y.now.id }
+    requires new_stamp { Each (λ z. z.rest.stamp ≢ x.now.rest.stamp) orders.old.list }
+    ensures orders { let others = without y.now.rest orders.old.list in OnOk result (orders.new.list ≡ list_after (change orders.old.securities y.now x.now (trades x.now.rest others) others) orders.old.list) }
+    ensures out { let others = without y.now.rest orders.old.list in OnOk result (out.new.items ≡ out.old.items ++ messages (change orders.old.securities y.now x.now (trades x.now.rest others) others)) }
+    ensures notes { let others = without y.now.rest orders.old.list in OnOk result (notes.new.items ≡ notes.old.items ++ fills (trades x.now.rest others) x.now.total x.now.rest.qty) }
+    ensures securities { orders.new.securities ≡ orders.old.securities }
     ensures same_orders { OnErr result (orders.new ≡ orders.old) }
     ensures same_out { OnErr result (out.new.items ≡ out.old.items) }
     ensures same_notes { OnErr result (notes.new.items ≡ notes.old.items) }
@@ -176,7 +187,8 @@ pub(crate) fn change(
     let told = trade::fills(alloc, &trades, x.total, x.rest.qty)?;
     let messages = change_messages(alloc, y, x, &trades)?;
     commit(out, notes, &messages, &told)?;
-    orders.remove(&y.rest);
-    admit(securities, orders, x, &trades);
+    orders.apart();
+    orders.remove(y);
+    admit(orders, x, &trades);
     Ok(())
 }

@@ -8,7 +8,7 @@ ghost use Rattle.t7_book.specs.About.{IsAbout, IsLeft};
 ghost use Rattle.t7_book.specs.Orders.{empty_book, roster_of};
 ghost use Rattle.t7_book.specs.Steps.{messages};
 ghost use Rattle.t7_book.specs.Trace.{AreAccepted, book_left, trace};
-ghost use Rattle.t7_book.specs.Laws.{TracesGrow, AllTradeInTurn, MarketsAreBooks};
+ghost use Rattle.t7_book.specs.Laws.{TracesGrow, AllTradeInTurn, MarketsAreBooks, TradesLeaveBooks, CommandsAddTheirSteps, CommandsAreShort};
 
 /// Commands that follow change neither a message that was given nor the book after it.
 pub fn traces_grow()
@@ -21,8 +21,8 @@ pub fn orders_trade_in_turn()
     ensures { AllTradeInTurn }
 {}
 
-/// The book after each message of accepted commands stands in the order of the book, each order once, and what is left of
-/// an order is its total less what was executed.
+/// The book after each message of accepted commands stands in the order of the book, each order once and under an id of its
+/// own, at most 20,000 in all and 10,000 of one security, and what is left of an order is its total less what was executed.
 pub fn markets_are_books()
     ensures { MarketsAreBooks }
 {}
@@ -41,4 +41,22 @@ pub fn messages_are_about_the_product()
 /// most 20,000 orders.
 pub fn books_left_are_whole()
     ensures { (listing : Listing) (cs : List Command) → AreAccepted listing cs → IsLeft (book_left (empty_book (roster_of listing)) cs) }
+{}
+
+/// The trade of an incoming order with the first order that it crosses leaves such a book again, so the law of trades holds of
+/// what is left.
+pub fn trades_leave_books()
+    ensures { TradesLeaveBooks }
+{}
+
+/// A command more gives the steps that the book left gives for it, behind those of the commands before it, and leaves what the
+/// book left becomes by it. With it the commands are accepted exactly where those before it are, it is for the product, the
+/// book left doesn't refuse it, and the day has room for it.
+pub fn commands_add_their_steps()
+    ensures { CommandsAddTheirSteps }
+{}
+
+/// An accepted command gives at most 10,002 messages and at most 9,999 notes.
+pub fn commands_are_short()
+    ensures { CommandsAreShort }
 {}

@@ -8,18 +8,22 @@ mod arrival;
 mod book;
 mod command;
 mod commit;
+mod kept;
 mod laws;
+mod ledger;
 mod order;
 mod orders;
 pub mod priority;
 mod removal;
+mod sides;
 mod trade;
 
 pub use book::Book;
 pub use command::{BookRefusal, Command, Done, Note};
 pub use laws::{
-    books_left_are_whole, markets_are_books, messages_are_about_the_product, messages_are_few,
-    orders_trade_in_turn, traces_grow,
+    books_left_are_whole, commands_add_their_steps, commands_are_short, markets_are_books,
+    messages_are_about_the_product, messages_are_few, orders_trade_in_turn, traces_grow,
+    trades_leave_books,
 };
 pub use order::Order;
 pub use orders::BookWalk;

@@ -1,10 +1,9 @@
 //! A resting order with what the exchange knows of it.
 
 ghost use Rattle.std.specs.Prelude.{◌≡◌, ◌<◌, ◌-◌};
-ghost use Rattle.t7_book.specs.Orders.{with_left, renewed_order};
+ghost use Rattle.t7_book.specs.Orders.{with_left};
 ghost use Rattle.t7_book.specs.Commands.{with_total, changed_order, keeps_priority, executed_of};
 
-use crate::priority;
 use t7_base::{OrderId, Price, Qty, Resting, SessionId, Stamp};
 
 /// A resting order of the exchange's book: as the feed shows it, its total (the OrderQty of its owner), what was
@@ -82,15 +81,4 @@ pub(crate) fn keeps_priority(y: &Order, price: Price, qty: Qty) -> bool
     ensures { result ≡ keeps_priority y.now price qty }
 {
     y.rest.price == price && qty.units() <= y.total.units()
-}
-
-/// x where y has its name, else y.
-pub(crate) fn renewed_order(x: &Order, y: &Order) -> Order
-    ensures { result ≡ renewed_order x.now y.now }
-{
-    if priority::same_name(&x.rest, &y.rest) {
-        *x
-    } else {
-        *y
-    }
 }

@@ -1,6 +1,8 @@
 //! The orders of a session, or of a security, leave the book.
 
-ghost use Rattle.std.specs.Prelude.{◌≡◌, ◌++◌, IfOk, OnOk, OnErr, []};
+ghost use Rattle.std.specs.Prelude.{◌≡◌, ◌++◌, Bool, IfOk, OnOk, OnErr, []};
+ghost use Rattle.std.specs.List.{filter};
+ghost use Rattle.t7_book.specs.declared.order.Order.{Order};
 ghost use Rattle.t7_book.specs.Steps.{list_after, deletions, messages, cleared};
 
 use crate::orders::Orders;
@@ -10,10 +12,14 @@ use t7_base::{Public, SecurityId, SessionId};
 
 /// Takes the orders out, one after another.
 pub(crate) fn remove_all(orders: &mut Orders, gone: &[Order])
-    ensures { orders.new ≡ list_after (deletions gone.now orders.old) orders.old }
+    requires { (p : Order → Bool) × (gone.now ≡ filter p orders.old.list) }
+    ensures list { orders.new.list ≡ list_after (deletions gone.now orders.old.list) orders.old.list }
+    ensures securities { orders.new.securities ≡ orders.old.securities }
 {
+    orders.apart();
     for y in gone {
-        orders.remove(&y.rest);
+        orders.remove(y);
+        orders.apart();
     }
 }
 
@@ -47,7 +53,7 @@ pub(crate) fn cleared(
     security: SecurityId,
     orders: &Orders,
 ) -> Result<Vec<Note>, AllocError>
-    ensures { IfOk result (λ told. told.items ≡ cleared sessions.now security orders.now) }
+    ensures { IfOk result (λ told. told.items ≡ cleared sessions.now security orders.now.list) }
 {
     let mut told = Vec::new(orders.alloc());
     for session in sessions {

@@ -1,8 +1,6 @@
-//! Worked examples with what each command gives, the limits, and a long run that a second computation checks.
+//! Worked examples with what each command gives, and the limits.
 
 mod examples;
 mod fixture;
 mod limits;
-mod naive;
 mod rows;
-mod run;

@@ -1,7 +1,9 @@
 //! What an incoming order trades.
 
 ghost use Rattle.std.specs.Prelude.{◌≡◌, ◌<◌, ◌≤◌, ◌++◌, IfOk, OnOk, map, length};
-ghost use Rattle.t7_book.specs.Trades.{traded, last_price, is_used_up, after_trade, after_trades, execution, fill, fills};
+ghost use Rattle.t7_base.specs.declared.public.Resting.{Resting};
+ghost use Rattle.t7_book.specs.Kept.{Stands};
+ghost use Rattle.t7_book.specs.Trades.{traded, trades, last_price, is_used_up, after_trade, after_trades, execution, fill, fills};
 
 use crate::orders::Orders;
 use crate::{Note, Order, order};
@@ -49,24 +51,28 @@ fn is_used_up(t: &Trade) -> bool
 }
 
 /// Carries out a trade on the resting order.
-#[tactic(auto, using(crate::proofs::ListLemmas::length_filter_le, crate::proofs::Lists::length_renewed))]
+#[tactic(auto, using(crate::proofs::StepLemmas::length_after_trade))]
 fn carry_out_one(orders: &mut Orders, t: &Trade)
-    ensures items { orders.new ≡ after_trade t.now orders.old }
-    ensures fewer { length orders.new ≤ length orders.old }
+    requires { Stands orders.old.list t.now.maker }
+    ensures list { orders.new.list ≡ after_trade t.now orders.old.list }
+    ensures securities { orders.new.securities ≡ orders.old.securities }
 {
     match t.maker.rest.qty.less(t.qty) {
-        None => orders.remove(&t.maker.rest),
+        None => orders.remove(&t.maker),
         Some(left) => orders.renew(&order::with_left(&t.maker, left)),
     }
 }
 
-/// Carries out the trades on the resting orders.
-pub(crate) fn carry_out(orders: &mut Orders, trades: &[Trade])
-    ensures items { orders.new ≡ after_trades trades.now orders.old }
-    ensures fewer { length orders.new ≤ length orders.old }
+/// Carries out the trades of an incoming order on the resting orders.
+pub(crate) fn carry_out(orders: &mut Orders, made: &[Trade])
+    requires { (x : Resting) × (made.now ≡ trades x orders.old.list) }
+    ensures list { orders.new.list ≡ after_trades made.now orders.old.list }
+    ensures securities { orders.new.securities ≡ orders.old.securities }
 {
-    for t in trades {
+    orders.apart();
+    for t in made {
         carry_out_one(orders, t);
+        orders.apart();
     }
 }
 

@@ -5,7 +5,7 @@ ghost use Rattle.t7_book.specs.Orders.{roster_of};
 
 use super::fixture::*;
 use super::rows::*;
-use crate::{Book, Command};
+use crate::{Book, BookRefusal, Command, Done, Note};
 use std::alloc::Global;
 use std::process::Abort;
 use std::test::Fail;
@@ -241,6 +241,43 @@ fn command_of(row: &Row) -> Result<Command, Fail> {
     })
 }
 
+/// In rows the answer, the messages, the notes and the orders of the book.
+fn told_of(
+    alloc: Global,
+    answer: &Result<Done, BookRefusal>,
+    out: &[Public],
+    notes: &[Note],
+    book: &Book,
+) -> Result<Vec<Row>, Fail> {
+    let mut told = Vec::new(alloc);
+    told.push(answer_row(answer))?;
+    push_messages(out, &mut told)?;
+    push_notes(notes, &mut told)?;
+    push_orders(book, &mut told)?;
+    Ok(told)
+}
+
+fn push_messages(out: &[Public], told: &mut Vec<Row>) -> Result<(), Fail> {
+    for message in out {
+        told.push(message_row(message))?;
+    }
+    Ok(())
+}
+
+fn push_notes(notes: &[Note], told: &mut Vec<Row>) -> Result<(), Fail> {
+    for note in notes {
+        told.push(note_row(note))?;
+    }
+    Ok(())
+}
+
+fn push_orders(book: &Book, told: &mut Vec<Row>) -> Result<(), Fail> {
+    for order in book.walk() {
+        told.push(order_row(REST, &order.rest))?;
+    }
+    Ok(())
+}
+
 /// Carries out the command of a row; answers in rows the answer, the messages, the notes and the book after it.
 fn told_by(
     rt: &impl Abort,
@@ -259,45 +296,43 @@ fn told_by(
     let mut out = Vec::new(alloc);
     let mut notes = Vec::new(alloc);
     let answer = book.apply(&command, &mut out, &mut notes);
-    let mut told = Vec::new(alloc);
-    told.push(answer_row(&answer))?;
-    push_messages(&out, &mut told)?;
-    for note in &notes {
-        told.push(note_row(note))?;
-    }
-    for order in book.walk() {
-        told.push(order_row(REST, &order.rest))?;
-    }
-    Ok(told)
+    told_of(alloc, &answer, &out, &notes, book)
 }
 
-fn push_messages(out: &[Public], told: &mut Vec<Row>) -> Result<(), Fail> {
-    for message in out {
-        told.push(message_row(message))?;
-    }
-    Ok(())
-}
-
-/// Carries out the commands of the rows from an empty book on. Behind each command stand the rows that it must give.
-fn play(rt: &impl Abort, alloc: Global, product: &Product, rows: &[Row]) -> Result<(), Fail>
-    requires { length rows.now ≤ 1_000 }
+/// Carries out the commands of the rows. Behind each command stand the rows that it must give.
+fn play_on(
+    rt: &impl Abort,
+    alloc: Global,
+    product: &Product,
+    book: &mut Book,
+    rows: &[Row],
+) -> Result<(), Fail>
+    requires product { book.old.roster ≡ roster_of product.now }
+    requires few { book.old.applied + length rows.now ≤ 1_000_000 }
 {
-    let mut book = Book::new(alloc, product)?;
     let mut told: Vec<Row> = Vec::new(alloc);
-    let mut next = 0;
+    let mut next = 0usize;
     for row in rows {
         if row[0] >= NEW {
             assert_eq!(rt; next, told.len(), "before {row:?}");
-            told = told_by(rt, alloc, product, &mut book, row)?;
+            told = told_by(rt, alloc, product, book, row)?;
             next = 0;
         } else {
             let found = told.get(next).copied().unwrap_or([0; 10]);
             assert_eq!(rt; found, *row);
-            next += 1;
+            next = next.wrapping_add(1);
         }
     }
     assert_eq!(rt; next, told.len(), "at the end");
     Ok(())
+}
+
+/// Carries out the commands of the rows from an empty book on.
+fn play(rt: &impl Abort, alloc: Global, product: &Product, rows: &[Row]) -> Result<(), Fail>
+    requires { length rows.now ≤ 1_000 }
+{
+    let mut book = Book::new(alloc, product)?;
+    play_on(rt, alloc, product, &mut book, rows)
 }
 
 #[test]
@@ -309,6 +344,5 @@ fn small_books(rt: HostRuntime) -> Result<(), Fail> {
     play(&rt, alloc, &product, &CROSS)?;
     play(&rt, alloc, &product, &CLEARS)?;
     play(&rt, alloc, &product, &LEAVE)?;
-    play(&rt, alloc, &product, &EXECUTED)?;
-    Ok(())
+    play(&rt, alloc, &product, &EXECUTED)
 }

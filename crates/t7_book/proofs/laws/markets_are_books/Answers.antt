@@ -1,4 +1,4 @@
-use Rattle.t7_book.proofs.RunningDay as lemmas
+use Rattle.t7_book.proofs.Books as lemmas
 use Rattle.t7_book.proofs.laws.markets_are_books.Goals as goal
 
 pub returns : goal.returns

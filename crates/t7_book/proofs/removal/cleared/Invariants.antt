@@ -3,4 +3,4 @@ use Rattle.t7_book.specs.Steps.{cleared}
 use Rattle.t7_book.proofs.removal.cleared.Given as goal
 
 abbrev pub invariant-loop-session : goal.invariant-loop-session
-invariant-loop-session l = l.told.items ++ cleared (drop l.session-index l.sessions) l.security l.orders ≡ cleared l.sessions l.security l.orders
+invariant-loop-session l = l.told.items ++ cleared (drop l.session-index l.sessions) l.security l.orders.list ≡ cleared l.sessions l.security l.orders.list
