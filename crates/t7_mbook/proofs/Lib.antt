@@ -2,3 +2,8 @@ pub mod Shown
 pub mod Leading
 pub mod Law
 pub mod Room
+pub mod KeptLemmas
+pub mod FitLemmas
+pub mod OrderLemmas
+pub mod ClearLemmas
+pub mod SideLemmas

@@ -2,7 +2,8 @@
 use Rattle.std.specs.Prelude.{List}
 use Rattle.t7_base.specs.declared.public.Resting.{Resting}
 use Rattle.t7_mbook.specs.declared.orders.MarketWalk.{MarketWalk}
+use Rattle.t7_mbook.specs.Kept.{shown_orders}
 
--- the orders that a walk has still to give
+-- the orders that a walk has left
 abbrev pub walk_rest : MarketWalk → List Resting
-walk_rest w = w.rest.now
+walk_rest w = shown_orders w.walk

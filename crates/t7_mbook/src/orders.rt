@@ -1,120 +1,203 @@
-//! The orders of the member's book, as one list in the order of the book. Nothing else touches how they are kept.
+//! The orders of the member's book, on linked price levels. Nothing else touches how they are kept.
 
-ghost use Rattle.std.specs.Prelude.{◌≡◌, ◌≤◌, ◌<◌, IfOk, IsSome, [], not, map, length, vec_capacity};
+ghost use Rattle.std.specs.Prelude.{◌≡◌, ◌≤◌, ◌<◌, ◌&&◌, true, None, IfOk, IfSome, IsSome, [], not, map, length};
 ghost use Rattle.std.specs.Iterator.{YieldsFirst, item_count};
-ghost use Rattle.std.specs.List.{insert, filter};
+ghost use Rattle.std.specs.List.{filter, find};
 ghost use Rattle.std.specs.Ordering.{int_eq};
-ghost use Rattle.t7_book.specs.Orders.{placed, goes_before};
+ghost use Rattle.t7_book.specs.Orders.{placed, goes_before, is_side};
 ghost use Rattle.t7_mbook.specs.Changes.{named, without_name, renewed_resting};
+ghost use Rattle.t7_mbook.specs.Misfits.{is_listed};
+ghost use Rattle.t7_mbook.specs.Kept.{shown_option};
+ghost use Rattle.std.specs.Option.{option_copied};
 ghost use Rattle.t7_mbook.specs.Walk.{walk_rest};
 
+use crate::kept::{Kept, OrderName};
+use crate::sides::Sides;
 use std::alloc::{AllocError, Global};
 use std::marker::Model;
-use t7_base::{Resting, SecurityId, Side, Stamp};
-use t7_book::priority;
+use t7_base::{Price, Qty, Resting, SecurityId, Side, Stamp};
+use t7_levels::{Shelves, Walk};
 
 /// How many orders a book holds at most.
 pub(crate) const MOST_ORDERS: usize = 20_000;
 
 /// The orders of a book as the feed shows them. Room for all that it may hold is taken at the beginning, so that no other
 /// call takes memory.
-#[derive(Debug, Drop)]
+#[derive(Drop)]
 pub(crate) struct Orders {
-    items: Vec<Resting>,
+    sides: Sides,
+    shelves: Shelves<OrderName, Kept>,
 }
 
 impl Model for Orders {
-    ghost use Rattle.std.specs.Prelude.{◌≤◌, List, length, vec_capacity};
-    ghost use Rattle.t7_base.specs.declared.public.Resting.{Resting};
+    ghost use Rattle.t7_mbook.specs.Kept.{Listed, shown_orders, AreKept};
 
-    ghost Value = { List Resting };
+    ghost Value = { Listed };
 
-    ghost view = { λ o. o.items.items };
+    ghost view = { λ o. record { securities = o.sides; list = shown_orders o.shelves.list } };
 
-    ghost invariant = { λ o. (length o.items.items ≤ 20_000) × (20_000 ≤ vec_capacity o.items) };
+    ghost invariant = { λ o. AreKept o.sides o.shelves };
 }
 
 impl Orders {
     /// No orders, with room for all that a book may hold.
-    pub(crate) fn new(alloc: Global) -> Result<Orders, AllocError>
-        ensures { IfOk result (λ orders. orders ≡ []) }
+    pub(crate) fn new(alloc: Global, securities: Vec<SecurityId>) -> Result<Orders, AllocError>
+        requires { length securities.items ≤ 1_000 }
+        ensures securities { IfOk result (λ orders. orders.securities ≡ securities.items) }
+        ensures list { IfOk result (λ orders. orders.list ≡ []) }
     {
+        let sides = 2 * securities.len();
+        let shelves = Shelves::new(alloc, sides, vacant())?;
         Ok(Orders {
-            items: Vec::with_capacity(alloc, MOST_ORDERS)?,
+            sides: Sides::new(alloc, securities)?,
+            shelves,
         })
     }
 
     /// How many orders there are.
     pub(crate) fn len(&self) -> usize
-        ensures value { result ≡ length self.now }
+        ensures value { result ≡ length self.now.list }
         ensures within { result ≤ 20_000 }
     {
-        self.items.len()
+        let _ = &self.sides;
+        self.shelves.len()
     }
 
     /// The order of this name.
     pub(crate) fn named(&self, security: SecurityId, side: Side, stamp: Stamp) -> Option<Resting>
-        ensures { result ≡ named security side stamp self.now }
+        ensures { result ≡ named security side stamp self.now.list }
     {
-        self.items
-            .iter()
-            .copied()
-            .find(|y| priority::has_name(security, side, stamp, y))
+        match self.sides.number(security, side) {
+            None => None,
+            Some(number) => shown(self.shelves.find(name_of(stamp, number))),
+        }
     }
 
-    /// Puts an order in its place.
-    pub(crate) fn place(&mut self, securities: &[SecurityId], x: Resting)
-        requires { length self.old < 20_000 }
-        ensures { self.new ≡ placed (goes_before securities.now) x self.old }
+    /// The first order of a side.
+    pub(crate) fn first(&self, security: SecurityId, side: Side) -> Option<Resting>
+        ensures { result ≡ find (λ y. int_eq y.security security && is_side y.side side) self.now.list }
     {
-        let at = place_of(securities, &self.items, &x);
-        let _ = self.items.insert(at, x);
+        match self.sides.number(security, side) {
+            None => None,
+            Some(number) => shown(self.shelves.first_of(number)),
+        }
     }
 
-    /// Takes the order of this name out. Where it was there, there is room for another.
-    #[tactic(auto, using(t7_book::proofs::ListLemmas::length_filter_le))]
-    pub(crate) fn remove(&mut self, security: SecurityId, side: Side, stamp: Stamp)
-        ensures items { self.new ≡ without_name security side stamp self.old }
-        ensures room { IsSome (named security side stamp self.old) → length self.new < 20_000 }
+    /// Takes the orders of a side out.
+    fn remove_side(&mut self, security: SecurityId, side: Side)
+        ensures list { self.new.list ≡ filter (λ y. not (int_eq y.security security && is_side y.side side)) self.old.list }
+        ensures securities { self.new.securities ≡ self.old.securities }
     {
-        self.items
-            .retain(|y| !priority::has_name(security, side, stamp, y));
+        while let Some(first) = self.first(security, side) {
+            self.remove(security, side, first.stamp);
+        }
     }
 
     /// Takes the orders of a security out.
-    #[tactic(auto, using(t7_book::proofs::ListLemmas::length_filter_le))]
     pub(crate) fn remove_security(&mut self, security: SecurityId)
-        ensures { self.new ≡ filter (λ y. not (int_eq y.security security)) self.old }
+        ensures list { self.new.list ≡ filter (λ y. not (int_eq y.security security)) self.old.list }
+        ensures securities { self.new.securities ≡ self.old.securities }
     {
-        self.items.retain(|y| y.security != security);
-    }
-
-    /// Puts x where the order of its name stands.
-    pub(crate) fn renew(&mut self, x: &Resting)
-        ensures { self.new ≡ map (renewed_resting x.now) self.old }
-    {
-        renew_in(&mut self.items, x);
+        self.remove_side(security, Side::Buy);
+        self.remove_side(security, Side::Sell);
     }
 
     /// Takes all orders out.
     pub(crate) fn clear(&mut self)
-        ensures { self.new ≡ [] }
+        ensures list { self.new.list ≡ [] }
+        ensures securities { self.new.securities ≡ self.old.securities }
     {
-        self.items.clear();
+        let _ = &self.sides;
+        self.shelves.clear();
+    }
+
+    /// Puts an order in its place.
+    pub(crate) fn place(&mut self, x: Resting)
+        requires listed { is_listed self.old.securities x.security ≡ true }
+        requires room { length self.old.list < 20_000 }
+        requires new { named x.security x.side x.stamp self.old.list ≡ None }
+        ensures list { self.new.list ≡ placed (goes_before self.old.securities) x self.old.list }
+        ensures securities { self.new.securities ≡ self.old.securities }
+    {
+        match self.sides.number(x.security, x.side) {
+            None => {}
+            Some(number) => self.shelves.place(Kept { number, order: x }),
+        }
+    }
+
+    /// Takes the order of this name out. Where it was there, there is room for another.
+    pub(crate) fn remove(&mut self, security: SecurityId, side: Side, stamp: Stamp)
+        ensures list { self.new.list ≡ without_name security side stamp self.old.list }
+        ensures room { IsSome (named security side stamp self.old.list) → length self.new.list < 20_000 }
+        ensures securities { self.new.securities ≡ self.old.securities }
+    {
+        match self.sides.number(security, side) {
+            None => {}
+            Some(number) => self.shelves.remove(name_of(stamp, number)),
+        }
+    }
+
+    /// Puts x where the order of its name stands, which has its price.
+    pub(crate) fn renew(&mut self, x: &Resting)
+        requires { IfSome (named x.now.security x.now.side x.now.stamp self.old.list) (λ kept. kept.price ≡ x.now.price) }
+        ensures list { self.new.list ≡ map (renewed_resting x.now) self.old.list }
+        ensures securities { self.new.securities ≡ self.old.securities }
+    {
+        match self.sides.number(x.security, x.side) {
+            None => {}
+            Some(number) => self.shelves.renew(Kept { number, order: *x }),
+        }
     }
 
     /// The orders, in the order of the book.
     pub(crate) fn walk(&self) -> MarketWalk<'_>
-        ensures { walk_rest result ≡ self.now }
+        ensures { walk_rest result ≡ self.now.list }
     {
-        MarketWalk { rest: &self.items }
+        let _ = &self.sides;
+        MarketWalk {
+            walk: self.shelves.walk(),
+        }
+    }
+}
+
+/// What stands in the free slots.
+fn vacant() -> Kept {
+    Kept {
+        number: 0,
+        order: Resting {
+            security: SecurityId(0),
+            side: Side::Buy,
+            price: Price::new(0).unwrap(),
+            stamp: Stamp::new(1).unwrap(),
+            qty: Qty::new(1).unwrap(),
+        },
+    }
+}
+
+/// A kept order as the feed shows it.
+fn shown(kept: Option<&Kept>) -> Option<Resting>
+    ensures { result ≡ shown_option (option_copied kept.entry) }
+{
+    match kept {
+        None => None,
+        Some(kept) => Some(kept.order),
+    }
+}
+
+/// The name of an order.
+fn name_of(stamp: Stamp, number: usize) -> OrderName
+    ensures { result ≡ record { stamp = stamp; number = number } }
+{
+    OrderName {
+        stamp: stamp.get(),
+        number,
     }
 }
 
 /// The orders of a member's book that are still to come, in the order of the book.
-#[derive(Debug, Drop)]
+#[derive(Drop)]
 pub struct MarketWalk<'a> {
-    rest: &'a [Resting],
+    walk: Walk<'a, Kept>,
 }
 
 impl<'a> Iterator for MarketWalk<'a> {
@@ -125,39 +208,9 @@ impl<'a> Iterator for MarketWalk<'a> {
     ghost remaining = { item_count walk_rest };
 
     fn next(&mut self) -> Option<Resting> {
-        let (first, others) = self.rest.split_first()?;
-        self.rest = others;
-        Some(*first)
-    }
-}
-
-/// How many of the orders, from the first on, go before x.
-fn place_of(securities: &[SecurityId], orders: &[Resting], x: &Resting) -> usize
-    ensures within { result ≤ length orders.now }
-    ensures place { placed (goes_before securities.now) x.now orders.now ≡ insert orders.now result x.now }
-{
-    for (i, y) in orders.iter().enumerate() {
-        if !priority::goes_before(securities, y, x) {
-            return i;
+        match self.walk.next() {
+            None => None,
+            Some(kept) => Some(kept.order),
         }
-    }
-    orders.len()
-}
-
-/// x where y has its name, else y.
-fn renewed_resting(x: &Resting, y: &Resting) -> Resting
-    ensures { result ≡ renewed_resting x.now y.now }
-{
-    if priority::same_name(x, y) { *x } else { *y }
-}
-
-/// Puts x where the order of its name stands.
-fn renew_in(orders: &mut Vec<Resting>, x: &Resting)
-    ensures items { orders.new.items ≡ map (renewed_resting x.now) orders.old.items }
-    ensures same { length orders.new.items ≡ length orders.old.items }
-    ensures room { vec_capacity orders.new ≡ vec_capacity orders.old }
-{
-    for y in orders.iter_mut() {
-        *y = renewed_resting(x, y);
     }
 }

@@ -1,7 +1,6 @@
-//! Each misfit once, the limit, a worked example, and a long run in which the messages of an exchange's book give that book.
+//! Stamps out of order, each misfit once, and the limit.
 
-mod example;
 mod fixture;
+mod late;
 mod limit;
 mod misfits;
-mod run;
