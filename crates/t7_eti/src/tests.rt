@@ -2,8 +2,6 @@
 
 ghost use Rattle.std.specs.Prelude.{◌≤◌, length};
 
-mod both_ways;
-
 use crate::{
     FieldFault, Kept, Reason, Request, Response, read_number, read_request, read_response,
     write_request, write_response,
