@@ -11,7 +11,7 @@ use Rattle.t7_base.specs.declared.public.Resting.{Resting}
 use Rattle.t7_layout.specs.Layouts.{Layout}
 use Rattle.t7_eobi.specs.declared.walks.Snap.{Snap}
 use Rattle.t7_eobi.specs.declared.walks.Live.TheVariants.{Message, Beat}
-use Rattle.t7_eobi.specs.Bytes.{header_bytes, snap_bytes, snap_role}
+use Rattle.t7_eobi.specs.Bytes.{header_bytes, snap_bytes}
 use Rattle.t7_eobi.specs.Said.{ReadsLive, ReadsSnap}
 use Rattle.t7_book.specs.declared.command.Command.{Command}
 use Rattle.t7_book.specs.declared.command.Command.TheVariants as command
@@ -19,7 +19,8 @@ use Rattle.t7_book.specs.Orders.{shown}
 use Rattle.t7_book.specs.Steps.{messages}
 use Rattle.t7_book.specs.Trace.{AreAccepted, market, trace}
 use Rattle.t7_greedy.specs.Cuts.{cut}
-use Rattle.t7_packets.specs.Packing.{datagram_bytes, role_size, room_in}
+use Rattle.t7_eobi.specs.Sizes.{snap_size}
+use Rattle.t7_packets.specs.Packing.{datagram_bytes, room_in}
 use Rattle.t7_book.specs.Acts.{Act, Accepts, Beats, Snaps, commands_of}
 use Rattle.t7_packets.specs.Datagrams.{live_datagrams}
 use Rattle.t7_feed.specs.Arrivals.{Arrival, Told, Packet, Delivery, Terms, channel_of}
@@ -33,10 +34,6 @@ entry_of order = record { side = order.side; price = order.price; stamp = order.
 abbrev pub parts_of : List ℤ → List Resting → List Section
 parts_of [] orders = []
 parts_of (security ∷ others) orders = record { security = security; orders = map entry_of (filter (λ order. int_eq order.security security) orders) } ∷ parts_of others orders
-
--- how many bytes an item has when it is written: those of its role's template
-abbrev pub snap_size : List Layout → Snap → ℕ
-snap_size layouts item = role_size layouts (snap_role item)
 
 -- the cycle of a book at m: its items, cut greedily into datagrams
 abbrev pub cycle_at : Terms → ℕ → List Resting → List (List Snap)

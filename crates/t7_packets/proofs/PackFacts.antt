@@ -14,7 +14,8 @@ use Rattle.t7_eobi.specs.Bytes.{beat_bytes, header_bytes, public_bytes}
 use Rattle.t7_eobi.specs.Said.{ReadsLive, SaysHeader, SaysLive, SayLives}
 use Rattle.t7_greedy.specs.Cuts.{IsLongestRun}
 use Rattle.t7_greedy.proofs.CutFacts.{taken_run}
-use Rattle.t7_packets.specs.Packing.{datagram_bytes, item_bytes, message_size, numbered, of_messages, role_size, room_in}
+use Rattle.t7_eobi.specs.Sizes.{message_size, role_size}
+use Rattle.t7_packets.specs.Packing.{datagram_bytes, item_bytes, numbered, of_messages, room_in}
 
 -- one message more takes the next number
 pub numbered_push : (first : ℕ) (xs : List Public) (x : Public) → numbered first (xs ++ x ∷ []) ≡ numbered first xs ++ Message (first + length xs) x ∷ []

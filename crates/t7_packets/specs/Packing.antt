@@ -1,29 +1,19 @@
 -- Live datagrams: a header, and live messages or a heartbeat behind it.
 use Rattle.std.specs.Prelude.{◌≢◌, ℕ, ◌+◌, ◌-◌, List, [], ◌∷◌, ◌++◌, map}
 use Rattle.std.specs.List.{concat}
-use Rattle.std.specs.Option.{option_map_or}
 use Rattle.t7_base.specs.declared.public.Public.{Public}
 use Rattle.t7_base.specs.declared.public.Public.TheVariants as public
-use Rattle.t7_layout.specs.declared.roles.Role.{Role}
 use Rattle.t7_layout.specs.declared.roles.Role.TheVariants as role
 use Rattle.t7_layout.specs.Layouts.{Layout}
-use Rattle.t7_layout.specs.Lookups.{find_role}
 use Rattle.t7_eobi.specs.declared.walks.Live.{Live}
 use Rattle.t7_eobi.specs.declared.walks.Live.TheVariants.{Message, Beat}
-use Rattle.t7_eobi.specs.Bytes.{IsSecurity, beat_bytes, header_bytes, public_bytes, role_for, security_of}
+use Rattle.t7_eobi.specs.Bytes.{IsSecurity, beat_bytes, header_bytes, public_bytes, security_of}
+use Rattle.t7_eobi.specs.Sizes.{role_size}
 
 -- a live message that every table can write
 pub record IsWritable (message : Public) : Type 0 where
   pub some : message ≢ public.Other
   pub security : IsSecurity (security_of message)
-
--- how many bytes a message of a role has when it is written: those of the role's template
-abbrev pub role_size : List Layout → Role → ℕ
-role_size layouts role = option_map_or (λ (t : Layout). t.size) (find_role layouts role) 0
-
--- how many bytes a live message has
-abbrev pub message_size : List Layout → Public → ℕ
-message_size layouts message = role_size layouts (role_for message)
 
 -- how many bytes the messages of a datagram may have together: the datagram's limit, less the header
 abbrev pub room_in : List Layout → ℕ → ℕ

@@ -6,11 +6,12 @@ ghost use Rattle.t7_layout.specs.declared.roles.Role.TheVariants as role;
 ghost use Rattle.t7_eobi.specs.Bytes.{IsSequence};
 ghost use Rattle.t7_eobi.specs.Said.{ReadsLive};
 ghost use Rattle.t7_greedy.specs.Cuts.{IsLongestRun};
-ghost use Rattle.t7_packets.specs.Packing.{IsWritable, datagram_bytes, message_size, of_beat, of_messages, role_size, room_in};
+ghost use Rattle.t7_eobi.specs.Sizes.{message_size, role_size};
+ghost use Rattle.t7_packets.specs.Packing.{IsWritable, datagram_bytes, of_beat, of_messages, room_in};
 
-use crate::write::{size_of, write_behind, write_front};
+use crate::write::write_behind;
 use t7_base::Public;
-use t7_eobi::{datagrams_read_again, write_beat};
+use t7_eobi::{datagrams_read_again, message_size, write_beat, write_header};
 use t7_layout::Table;
 
 /// How much one datagram took: its length in bytes, from 16, and how many of the messages it has, from 1.
@@ -52,10 +53,10 @@ pub fn pack(
     ensures reads { ReadsLive table.now segment number (of_messages number first (take result.used messages.now)).items (take result.len out.new) }
 {
     datagrams_read_again();
-    let mut len = write_front(table, segment, number, out);
+    let mut len = write_header(table, segment, number, out);
     for (used, message) in messages.iter().enumerate() {
         let left = limit as usize - len;
-        if left < size_of(table, message) {
+        if left < message_size(table, message) {
             return Packed { len, used };
         }
         len += write_behind(table, first + used as u32, message, len, out);
@@ -80,6 +81,6 @@ pub fn pack_beat(table: &Table, segment: u32, number: u32, last: u32, out: &mut 
     ensures reads { ReadsLive table.now segment number (of_beat number last).items (take result out.new) }
 {
     datagrams_read_again();
-    let header = write_front(table, segment, number, out);
+    let header = write_header(table, segment, number, out);
     header + write_beat(table, last, &mut out[header..])
 }
