@@ -13,13 +13,14 @@ use Rattle.t7_eobi.specs.declared.walks.Snap.{Snap}
 use Rattle.t7_eobi.specs.Bytes.{header_bytes, snap_bytes}
 use Rattle.t7_eobi.specs.Said.{ReadsSnap, SaysHeader, SaysSnap, SaySnaps}
 use Rattle.t7_greedy.specs.Cuts.{IsFilled, IsLongestRun, cut, cut_from}
-use Rattle.t7_packets.specs.Packing.{role_size, room_in}
+use Rattle.t7_eobi.specs.Sizes.{role_size, snap_size}
+use Rattle.t7_packets.specs.Packing.{room_in}
 use Rattle.t7_base.specs.Listing.{Listing, IsListing}
 use Rattle.t7_eobi.specs.Bytes.{IsSecurity}
 use Rattle.std.proofs.lemmas.Bool.Decides.{nat_tests}
 use Rattle.std.proofs.lemmas.Int.{ints}
 use Rattle.t7_feed.specs.Arrivals.{Terms}
-use Rattle.t7_feed.specs.Sending.{snap_datagram_bytes, snap_size}
+use Rattle.t7_feed.specs.Sending.{snap_datagram_bytes}
 use Rattle.t7_snapshot.specs.Sending.{Packs}
 
 -- the items that are written so far
@@ -172,6 +173,11 @@ cut_from_some size room begun left (x ∷ xs) none =
       | inl e ↦ cut_from_some size room (begun ++ x ∷ []) (left - size x) xs (rw e.0 at none)
       | inr o ↦ (let h : begun ∷ cut_from size room (x ∷ []) (room - size x) xs ≡ [] = rw o.0 at none in cc h)
     ]
+
+-- no datagram is left only where no item is
+pub cut_none : (size : Snap → ℕ) (room : ℕ) (xs : List Snap) → cut size room xs ≡ [] → xs ≡ []
+cut_none size room [] none = refl
+cut_none size room (x ∷ xs) none = absurd (cut_from_some size room (x ∷ []) (room - size x) xs none)
 
 -- datagrams are left where an item is
 pub peeks : (size : Snap → ℕ) (room : ℕ) (xs : List Snap) (next : Option Snap) (b : Bool) → MatchOption next (xs ≡ []) (λ snap. (rest : List Snap) × (xs ≡ snap ∷ rest))

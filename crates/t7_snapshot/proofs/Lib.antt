@@ -7,3 +7,4 @@ pub mod Scripts
 pub mod Fills
 pub mod Onward
 pub mod TallyFacts
+pub mod Noted

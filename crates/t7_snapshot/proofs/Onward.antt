@@ -10,7 +10,7 @@ use Rattle.t7_eobi.specs.Datagrams.{snaps_of}
 use Rattle.t7_feed.specs.Arrivals.{or_else, Terms}
 use Rattle.t7_snapshot.specs.declared.progress.Progress.{Progress}
 use Rattle.t7_snapshot.specs.Reading.{Awaits, fresh, read_instrument, read_one, read_all, Completes, goes_on, opens, Kept, Nearest, Reads, begins_at, reads_on}
-use Rattle.t7_snapshot.specs.Remembered.{blank, IsProgress, AreRemembered}
+use Rattle.t7_snapshot.specs.Remembered.{blank, IsProgress, IsRow, AreRemembered}
 use Rattle.t7_snapshot.specs.Store.{Store, free, held, seen, IsNew, IsRing, IsSnapDatagram, Takes}
 use Rattle.t7_snapshot.proofs.Held.{compare, held_stands, none_or, now_below, now_held, now_same, rises, same_or, some_one, takes_new, takes_same}
 use Rattle.t7_snapshot.proofs.Search.{completes_back, is_not_none}
@@ -153,21 +153,30 @@ remembers_more store places n progress some all is = record {
 abbrev pub stored : Terms → ℕ → List (ℕ × List ℕ) → Store
 stored terms high ring = record { terms = terms; highest = high; ring = ring }
 
+stays_seen : (terms : Terms) (low high i : ℕ) (ring after : List (ℕ × List ℕ)) (taken : List ℕ) → Takes i taken (stored terms low ring) (stored terms high after)
+    → (k : ℕ) (snaps : List Snap) → high < k + terms.listing.packets → seen (stored terms low ring) k ≡ Some snaps → seen (stored terms high after) k ≡ Some snaps
+stays_seen terms low high i ring after taken t k snaps from seen_then =
+    let h = seen_held (stored terms low ring) k snaps seen_then in
+    let e : held (stored terms high after) k ≡ held (stored terms low ring) k =
+    t.kept k from ∙ ap (λ o. or_else o (if eqb i k then Some taken else None)) h.1 ∙ sym h.1 in
+    ap (λ o. option_map (snaps_of terms.layouts) o) e ∙ seen_then
+
+-- so does the row before it
+row_still : (terms : Terms) (low high i : ℕ) (ring after : List (ℕ × List ℕ)) (taken : List ℕ) → Takes i taken (stored terms low ring) (stored terms high after)
+    → (n back : ℕ) → IsRow (stored terms low ring) n back → IsRow (stored terms high after) n back
+row_still terms low high i ring after taken t n back row = λ k over under near.
+    let kept = row k over under (let h = t.highest in omega arith) in
+    (kept.0, stays_seen terms low high i ring after taken t k kept.0 near kept.1, kept.2)
+
 -- what is remembered of a datagram stays so while it is held
 still : (terms : Terms) (low high i : ℕ) (ring after : List (ℕ × List ℕ)) (taken : List ℕ) → Takes i taken (stored terms low ring) (stored terms high after)
     → (n : ℕ) (bytes : List ℕ) → held (stored terms high after) n ≡ Some bytes → (progress : Progress) → IsProgress (stored terms low ring) n progress → IsProgress (stored terms high after) n progress
 still terms low high i ring after taken t n bytes at progress is =
     let near = t.near n bytes at in
-    let stays : (k : ℕ) (snaps : List Snap) → n ≤ k → seen (stored terms low ring) k ≡ Some snaps → seen (stored terms high after) k ≡ Some snaps =
-    λ k snaps from seen_then. (
-    let h = seen_held (stored terms low ring) k snaps seen_then in
-    let e : held (stored terms high after) k ≡ held (stored terms low ring) k =
-    t.kept k (omega arith) ∙ ap (λ o. or_else o (if eqb i k then Some taken else None)) h.1 ∙ sym h.1 in
-    ap (λ o. option_map (snaps_of terms.layouts) o) e ∙ seen_then
-    ) in
     record {
-      opens = (is.opens.0, stays n is.opens.0 (omega arith) is.opens.1, is.opens.2);
-      reads = reads_same stays is.reads;
+      opens = (is.opens.0, stays_seen terms low high i ring after taken t n is.opens.0 near is.opens.1, is.opens.2);
+      reads = reads_same (λ k snaps from. stays_seen terms low high i ring after taken t k snaps (omega arith)) is.reads;
+      row = row_still terms low high i ring after taken t n progress.back is.row;
     }
 
 -- a ring of which the highest number rises
@@ -216,14 +225,14 @@ remembers_same terms low i ring bytes places inside some old all =
     }
 
 -- a take that keeps the datagram
-pub remembers_new : (terms : Terms) (low i : ℕ) (ring : List (ℕ × List ℕ)) (bytes : List ℕ) (places : List Progress) (does : Bool) → IsRing (stored terms low ring) → 0 < i → IsNew (stored terms low ring) i
-    → does ≡ opens (snaps_of terms.layouts bytes) → AreRemembered (stored terms low ring) places
-    → AreRemembered (stored terms (max i low) (set ring (i % terms.listing.packets) (i, bytes))) (set places (i % terms.listing.packets) (record { opens = does; next = i; awaited = fresh terms.listing.securities }))
+pub remembers_new : (terms : Terms) (low i : ℕ) (ring : List (ℕ × List ℕ)) (bytes : List ℕ) (places : List Progress) (does : Bool) (back : ℕ) → IsRing (stored terms low ring) → 0 < i → IsNew (stored terms low ring) i
+    → does ≡ opens (snaps_of terms.layouts bytes) → IsRow (stored terms low ring) i back → AreRemembered (stored terms low ring) places
+    → AreRemembered (stored terms (max i low) (set ring (i % terms.listing.packets) (i, bytes))) (set places (i % terms.listing.packets) (record { opens = does; next = i; awaited = fresh terms.listing.securities; back = back }))
 unfolding held
-remembers_new terms low i ring bytes places does inside some new does_is all =
+remembers_new terms low i ring bytes places does back inside some new does_is row all =
     let packets = terms.listing.packets in
     let now = stored terms (max i low) (set ring (i % terms.listing.packets) (i, bytes)) in
-    let mine : Progress = record { opens = does; next = i; awaited = fresh terms.listing.securities } in
+    let mine : Progress = record { opens = does; next = i; awaited = fresh terms.listing.securities; back = back } in
     let t = takes_new terms low i ring bytes inside some new in
     let i_near : max i low < i + terms.listing.packets = (let n = new.0 in let p = inside.some in omega arith) in
     let here : held now i ≡ Some bytes = now_same terms.listing.packets low ring inside.below inside.some inside.full i bytes some i_near in
@@ -235,7 +244,7 @@ remembers_new terms low i ring bytes places does inside some new does_is all =
             let e : get_or (set places (i % terms.listing.packets) mine) (n % terms.listing.packets) blank ≡ mine =
             ap (λ k. get_or (set places (i % terms.listing.packets) mine) k blank) same
             ∙ get_or-set_same places (i % terms.listing.packets) mine blank (let m = all.many in let p = inside.some in omega arith) in
-            let is : IsProgress now i mine = record { opens = (snaps_of terms.layouts bytes, ap (λ o. option_map (snaps_of terms.layouts) o) here, sym does_is); reads = begins_at refl refl } in
+            let is : IsProgress now i mine = record { opens = (snaps_of terms.layouts bytes, ap (λ o. option_map (snaps_of terms.layouts) o) here, sym does_is); reads = begins_at refl refl; row = row_still terms low (max i low) i ring (set ring (i % terms.listing.packets) (i, bytes)) bytes t i back row } in
             subst (λ x. IsProgress now n x) (sym e) (subst (λ j. IsProgress now j mine) (sym one) is)
             )
         | inr other ↦ (

@@ -6,3 +6,4 @@ pub mod Tallies
 pub mod Walking
 pub mod Whole
 pub mod Sending
+pub mod Noting

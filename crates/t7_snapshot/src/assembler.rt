@@ -1,6 +1,6 @@
 // The assembler: it keeps the snapshot datagrams of the last numbers and finds whole cycles among them.
 
-ghost use Rattle.std.specs.Prelude.{◌≡◌, ℕ, ◌+◌, ◌<◌, ◌≤◌, max, List, Option, Some, None, MatchOption, IsTrue, ◌↔◌, IfOk, IfSome, ◌∷◌, length, true};
+ghost use Rattle.std.specs.Prelude.{◌≡◌, ℕ, ◌+◌, ◌<◌, ◌≤◌, max, List, Option, Some, None, MatchOption, IsTrue, ◌↔◌, IfOk, IfSome, ◌∷◌, get_or, length, false, true};
 ghost use Rattle.std.specs.Bool.{OnTrue};
 ghost use Rattle.std.specs.Borrow.{sem};
 ghost use Rattle.t7_base.specs.Listing.{IsListing};
@@ -9,10 +9,10 @@ ghost use Rattle.t7_eobi.specs.Datagrams.{packet_number, snaps_left, snaps_of};
 ghost use Rattle.t7_eobi.specs.Faults.{fault_of};
 ghost use Rattle.t7_eobi.specs.declared.walks.Snap.{Snap};
 ghost use Rattle.t7_eobi.specs.declared.walks.Snap.TheVariants as items;
-ghost use Rattle.t7_snapshot.specs.Store.{held, seen, IsNew, IsSnapDatagram, Takes, reading};
+ghost use Rattle.t7_snapshot.specs.Store.{free, held, seen, IsNew, IsSnapDatagram, Takes, reading};
 ghost use Rattle.t7_snapshot.specs.Taking.{Answers, IsWhole, TakesLent};
 ghost use Rattle.t7_snapshot.specs.Reading.{fresh, Completes, done_of, Kept, Nearest, opens as opens_of, read_all};
-ghost use Rattle.t7_snapshot.specs.Remembered.{IsProgress};
+ghost use Rattle.t7_snapshot.specs.Remembered.{IsProgress, IsRow};
 
 use crate::awaited::Awaited;
 use crate::progress::{Progress, nothing_read};
@@ -133,6 +133,15 @@ impl<'t> Assembler<'t> {
         Some(packet.snap())
     }
 
+    /// At most as many datagrams are kept as the product's `packets`, and each has at most 1,472 bytes.
+    pub fn is_within_window(&self)
+        ensures many { length self.now.ring ≤ self.now.terms.listing.packets }
+        ensures small { (place : ℕ) → 0 < (get_or self.now.ring place free).0 → length (get_or self.now.ring place free).1 ≤ 1472 }
+    {
+        datagrams_are_messages_behind_a_header();
+        let _ring = &self.ring;
+    }
+
     /// Whether `take` would keep a datagram of this number, from 1 on: it is above the highest number that came less the product's `packets`,
     /// and none of its number is kept.
     pub fn is_new(&self, number: u32) -> bool
@@ -171,6 +180,28 @@ impl<'t> Assembler<'t> {
         }
     }
 
+    // The number before the datagrams that are kept in a row up to one of them, as far as that is known, and of which none opens a cycle.
+    fn before(&self, n: u32) -> u32
+        requires some { 0 < n }
+        requires kept { Kept (seen self.now) n false }
+        ensures less { result < n }
+        ensures between { (k : ℕ) → result < k → k ≤ n → Kept (seen self.now) k false }
+    {
+        let lowest = self.highest.saturating_sub(self.product.packets());
+        self.progress(n).back.max(lowest).min(n - 1)
+    }
+
+    // The number before the datagrams that are kept in a row before a new one, as far as that is known, and of which none opens a cycle.
+    fn back_of(&self, number: u32) -> u32
+        requires { 0 < number }
+        ensures { IsRow self.now number result }
+    {
+        match self.opens(number - 1) {
+            Some(false) => self.progress(number - 1).back,
+            _ => number - 1,
+        }
+    }
+
     // Keeps a datagram, where it is new.
     fn put(&mut self, number: u32, bytes: &[u8], opens: bool)
         requires some { 0 < number }
@@ -184,6 +215,7 @@ impl<'t> Assembler<'t> {
             self.highest = number.max(self.highest);
             return;
         }
+        let back = self.back_of(number);
         let securities = self.product.securities();
         self.highest = number.max(self.highest);
         let place = (number % self.product.packets()) as usize;
@@ -193,6 +225,7 @@ impl<'t> Assembler<'t> {
             opens,
             next: number,
             awaited: Awaited::new(securities),
+            back,
         };
     }
 
@@ -228,6 +261,7 @@ impl<'t> Assembler<'t> {
             opens: true,
             next,
             awaited,
+            back: remembered.back,
         }
     }
 
@@ -267,7 +301,7 @@ impl<'t> Assembler<'t> {
             if opens {
                 return Some(n);
             }
-            n -= 1;
+            n = self.before(n);
             if self.was_read(self.recent, n) {
                 return Some(self.recent);
             }
@@ -324,7 +358,7 @@ impl<'t> Assembler<'t> {
     ///
     /// The items of a datagram are looked at up to the first when it comes, and read once when all before it in its cycle are there. Where a run
     /// ends a cycle, or misfits, its last datagram is read again with each datagram of the run that comes after. The way back to the
-    /// first datagram of a cycle goes over what is remembered of the places, and not over their bytes.
+    /// first datagram of a cycle goes from one that came out of turn to the next such, over what is remembered of their places.
     pub fn take<'a>(&'a mut self, packet: &Packet<'_>) -> Option<WholeSnapshot<'a>>
         requires reading { packet.now.reading ≡ reading self.old.terms }
         requires sound { fault_of packet.now.reading packet.now.bytes ≡ None }

@@ -5,6 +5,7 @@
 mod assembler;
 mod awaited;
 mod cycle;
+mod image;
 mod progress;
 mod script;
 mod slot;
@@ -15,6 +16,3 @@ mod whole;
 pub use assembler::Assembler;
 pub use cycle::Cycle;
 pub use whole::{WholeSnapshot, WholeWalk};
-
-#[cfg(test)]
-mod tests;

@@ -7,12 +7,14 @@ use std::alloc::{AllocError, Global};
 use t7_base::SecurityId;
 
 /// What is remembered of a kept datagram beside its bytes: whether it opens a cycle, the number of the first datagram from it on
-/// that isn't read in order yet, and what is awaited there.
+/// that isn't read in order yet, what is awaited there, and the number behind which all up to it were kept when it came, none of
+/// which opens a cycle.
 #[derive(Drop)]
 pub(crate) struct Progress<'s> {
     pub(crate) opens: bool,
     pub(crate) next: u32,
     pub(crate) awaited: Awaited<'s>,
+    pub(crate) back: u32,
 }
 
 /// So many places of which nothing is remembered.
@@ -29,6 +31,7 @@ pub(crate) fn nothing_read<'s>(
             opens: false,
             next: 0,
             awaited: Awaited::new(securities),
+            back: 0,
         })?;
     }
     Ok(places)

@@ -1,12 +1,11 @@
 // What is left to tell of a frozen book.
 
-ghost use Rattle.std.specs.Prelude.{◌≡◌, ℕ, ◌+◌, ◌<◌, ◌≤◌, List, Option, Some, None, MatchOption, IfSome, IfOk, [], ◌∷◌, length, drop, get_or, vec_capacity};
+ghost use Rattle.std.specs.Prelude.{◌≡◌, ◌≢◌, MatchBool, ℕ, ◌+◌, ◌<◌, ◌≤◌, List, Option, Some, None, MatchOption, IfSome, IfOk, [], ◌∷◌, length, drop, get_or, vec_capacity};
 ghost use Rattle.std.specs.List.{All, IsDistinct};
 ghost use Rattle.std.specs.Ordering.{int_eq};
 ghost use Rattle.t7_base.specs.declared.public.Resting.{Resting};
 ghost use Rattle.t7_eobi.specs.declared.walks.Snap.{Snap};
 ghost use Rattle.t7_eobi.specs.Bytes.{IsKnown, IsSecurity};
-ghost use Rattle.t7_book.specs.Orders.{shown};
 ghost use Rattle.t7_feed.specs.Cycles.{cycle_of, item_of};
 ghost use Rattle.t7_feed.specs.Sending.{entry_of, parts_of};
 ghost use Rattle.t7_snapshot.specs.Sending.{items_in, items_under};
@@ -15,8 +14,8 @@ use crate::tally::{Tally, begin_tallies, tally_at, tally_orders};
 use std::alloc::{AllocError, Global};
 use std::marker::Model;
 use t7_base::{Resting, SecurityId};
-use t7_book::Book;
 use t7_eobi::Snap;
+use t7_mbook::MarketBook;
 
 // The most orders of a book.
 const MOST_ORDERS: usize = 20_000;
@@ -60,17 +59,17 @@ fn next_under(
     }
 }
 
-// Copies the orders of a book as the feed shows them.
-fn copy_orders(book: &Book, orders: &mut Vec<Resting>)
+// Copies the orders of a book.
+fn copy_orders(book: &MarketBook, orders: &mut Vec<Resting>)
     requires { 20_000 ≤ vec_capacity orders.old }
-    ensures copied { orders.new.items ≡ shown book.now.orders }
+    ensures copied { orders.new.items ≡ book.now.orders }
     ensures few { length orders.new.items ≤ 20_000 }
     ensures room { 20_000 ≤ vec_capacity orders.new }
 {
     let _most = book.len();
     orders.clear();
     for order in book.walk() {
-        orders.push_reserved(order.rest);
+        orders.push_reserved(order);
     }
 }
 
@@ -120,12 +119,12 @@ impl Script {
     }
 
     /// Begins to tell a book beside message m, for these securities.
-    pub(crate) fn begin(&mut self, securities: &[SecurityId], book: &Book, m: u32)
+    pub(crate) fn begin(&mut self, securities: &[SecurityId], book: &MarketBook, m: u32)
         requires few { length securities.now ≤ 1000 }
         requires distinct { IsDistinct int_eq securities.now }
         requires ranged { All IsSecurity securities.now }
         requires number { m ≤ 4_294_967_294 }
-        ensures { self.new ≡ cycle_of m (parts_of securities.now (shown book.now.orders)) }
+        ensures { self.new ≡ cycle_of m (parts_of securities.now book.now.orders) }
     {
         copy_orders(book, &mut self.orders);
         begin_tallies(securities, &mut self.tallies);
@@ -135,6 +134,13 @@ impl Script {
         self.under = None;
         self.place = 0;
         self.left = 0;
+    }
+
+    /// Whether nothing is left.
+    pub(crate) fn is_told(&self) -> bool
+        ensures { MatchBool result (self.now ≡ []) (self.now ≢ []) }
+    {
+        self.peek().is_none()
     }
 
     /// The next item.

@@ -1,19 +1,17 @@
-use Rattle.std.proofs.Common.{◌-◌, subst, arith}
-use Rattle.t7_snapshot.specs.Store.{seen}
-use Rattle.t7_snapshot.specs.Reading.{Kept}
+use Rattle.std.proofs.Common.{arith}
 use Rattle.t7_snapshot.proofs.Onward.{nearest_join}
-use Rattle.t7_snapshot.proofs.Search.{between_next, nearest_none}
+use Rattle.t7_snapshot.proofs.Search.{between_join, nearest_none}
 use Rattle.t7_snapshot.proofs.assembler.Assembler.find_begin.Goals as goal
 
 pub returns-then-was_read-clause-nearest : goal.returns-then-was_read-clause-nearest
 returns-then-was_read-clause-nearest c =
-    let between = between_next _ _ _ c.loop-opens.invariant.between (subst (λ b. Kept (seen c.args.self.now) c.loop-opens.n b) c.if-opens.false c.in-Some.ensures.kept) in
-    nearest_join _ (c.loop-opens.n - 1) c.args.i _ (let l = c.loop-opens.invariant.low in omega arith) between c.if-was_read.ensures.nearest
+    let between = between_join _ _ _ _ c.loop-opens.invariant.between c.before-n.ensures.between in
+    nearest_join _ c.before-n.result c.args.i _ (let l = c.loop-opens.invariant.low in let b = c.before-n.ensures.less in omega arith) between c.if-was_read.ensures.nearest
 
 pub loop-opens-preserved : goal.loop-opens-preserved
 loop-opens-preserved c = record {
-  low = (let l = c.loop-opens.invariant.low in omega arith);
-  between = between_next _ _ _ c.loop-opens.invariant.between (subst (λ b. Kept (seen c.args.self.now) c.loop-opens.n b) c.if-opens.false c.in-Some.ensures.kept);
+  low = (let l = c.loop-opens.invariant.low in let b = c.before-n.ensures.less in omega arith);
+  between = between_join _ _ _ _ c.loop-opens.invariant.between c.before-n.ensures.between;
 }
 
 pub returns-clause-nearest : goal.returns-clause-nearest

@@ -18,7 +18,7 @@ invariant_of-self-2 c =
     let new = rw (← c.self.view_is) at (c.if-not-is_new.ensures.0 refl) in
     rw (c.max-self-inside-2.ensures, c.keep.ensures, c.packets.ensures.value, c.new.ensures, c.securities-securities.ensures.value) (record {
       ring = ring_new _ _ c.args.number _ c.args.bytes.now c.self.invariant.ring c.requires.some c.requires.room new (rw (← c.self.view_is) at c.requires.sound);
-      remembered = remembers_new _ _ c.args.number _ c.args.bytes.now _ c.args.opens c.self.invariant.ring c.requires.some new (rw (← c.self.view_is) at c.requires.opens) c.self.invariant.remembered;
+      remembered = remembers_new _ _ c.args.number _ c.args.bytes.now _ c.args.opens _ c.self.invariant.ring c.requires.some new (rw (← c.self.view_is) at c.requires.opens) (rw (← c.self.view_is) at c.back_of-back.ensures) c.self.invariant.remembered;
     })
 
 pub returns : goal.returns

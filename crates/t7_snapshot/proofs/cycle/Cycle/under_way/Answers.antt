@@ -1,5 +1,5 @@
 use Rattle.t7_packets.specs.Packing.{room_in}
-use Rattle.t7_feed.specs.Sending.{snap_size}
+use Rattle.t7_eobi.specs.Sizes.{snap_size}
 use Rattle.t7_snapshot.proofs.Fills.{peeks, peeks_none}
 use Rattle.t7_snapshot.proofs.cycle.Cycle.under_way.Goals as goal
 
