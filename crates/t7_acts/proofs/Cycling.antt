@@ -10,7 +10,8 @@ use Rattle.t7_greedy.specs.Cuts.{cut_from}
 use Rattle.t7_packets.specs.Packing.{room_in}
 use Rattle.t7_feed.specs.Arrivals.{Terms}
 use Rattle.t7_feed.specs.Cycles.{body_of}
-use Rattle.t7_feed.specs.Sending.{cycle_at, cycle_now, first_and, numbered_bytes, parts_of, snap_datagram_bytes, snap_size, snaps_from, under_way}
+use Rattle.t7_eobi.specs.Sizes.{snap_size}
+use Rattle.t7_feed.specs.Sending.{cycle_at, cycle_now, first_and, numbered_bytes, parts_of, snap_datagram_bytes, snaps_from, under_way}
 use Rattle.t7_acts.specs.Left.{left_from}
 
 -- there is a first

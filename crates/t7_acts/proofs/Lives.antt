@@ -9,7 +9,8 @@ use Rattle.t7_book.specs.Steps.{Step, book_after, messages, steps}
 use Rattle.t7_book.specs.Trace.{book_left, trace_from}
 use Rattle.t7_greedy.specs.Cuts.{cut}
 use Rattle.t7_packets.specs.Datagrams.{live_from, shipped}
-use Rattle.t7_packets.specs.Packing.{message_size, of_beat, room_in}
+use Rattle.t7_eobi.specs.Sizes.{message_size}
+use Rattle.t7_packets.specs.Packing.{of_beat, room_in}
 
 -- a datagram for each run
 pub shipped_count : (number first : ℕ) (runs : List (List Public)) → length (shipped number first runs) ≡ length runs

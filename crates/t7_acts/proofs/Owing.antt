@@ -4,7 +4,8 @@ use Rattle.t7_base.specs.declared.public.Public.{Public}
 use Rattle.t7_layout.specs.Layouts.{Layout}
 use Rattle.t7_greedy.specs.Cuts.{cut, joined}
 use Rattle.t7_packets.specs.Datagrams.{shipped}
-use Rattle.t7_packets.specs.Packing.{Datagram, message_size, numbered, room_in}
+use Rattle.t7_eobi.specs.Sizes.{message_size}
+use Rattle.t7_packets.specs.Packing.{Datagram, numbered, room_in}
 use Rattle.t7_entry.specs.Days.{due_from}
 use Rattle.t7_acts.proofs.Lives.{shipped_count}
 

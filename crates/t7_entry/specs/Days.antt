@@ -8,7 +8,8 @@ use Rattle.t7_book.specs.Orders.{BookState}
 use Rattle.t7_book.specs.Steps.{book_after, messages, steps}
 use Rattle.t7_book.specs.Trace.{trace}
 use Rattle.t7_greedy.specs.Cuts.{cut, joined}
-use Rattle.t7_packets.specs.Packing.{Datagram, message_size, room_in}
+use Rattle.t7_eobi.specs.Sizes.{message_size}
+use Rattle.t7_packets.specs.Packing.{Datagram, room_in}
 use Rattle.t7_packets.specs.Datagrams.{shipped}
 use Rattle.t7_entry.specs.State.{Doing, Reply, Setting, State, replies, start, tells}
 use Rattle.t7_entry.specs.Events.{Event, Result, happens}

@@ -17,13 +17,14 @@ use Rattle.t7_session.specs.Asked.{asked_of}
 use Rattle.t7_session.specs.Held.{Held, opened}
 use Rattle.t7_session.specs.Steps.{asked_in, has_number, is_logon, session_step, step_at, step_by, step_of, wanted}
 use Rattle.t7_entry.specs.ByNumber.{Rises, contains_key, get, insert, keys, len, remove}
-use Rattle.t7_entry.specs.State.{Setting, State}
+use Rattle.t7_entry.specs.State.{Setting, State, line_of}
 use Rattle.t7_entry.specs.Days.{Day, day_after, went_on}
 use Rattle.t7_entry.specs.Events.{Closed, Opened, Tick, settled_each, tick_each, unchanged}
 use Rattle.t7_entry.specs.Stalls.{IsOpen, IsShut, front_treated, input_of, opens, taken, taken_at, untreated_at, untreated_of}
 use Rattle.t7_entry.proofs.Numbers.{get-insert-same}
 use Rattle.t7_exchange.specs.Maps.{changed, fed, input_part, inputs_of, line_part, lines_of}
 use Rattle.t7_exchange.specs.Outbox.{Outbox}
+use Rattle.t7_exchange.specs.Paired.{ArePaired}
 use Rattle.t7_exchange.specs.Views.{day_of, state_of}
 use Rattle.t7_exchange.specs.Wires.{Acts, Wires, core_of}
 use Rattle.t7_exchange.proofs.MapFacts.{get-parts, parts-insert, parts-kept, parts-remove}
@@ -38,6 +39,14 @@ module _ (setting : Setting) (accepted : List Command) (out : Outbox) where
       by_value : (o : Option Held) → get w.held conn ≡ o → MatchBool (is_some o) (IsOpen (day_of setting accepted w out) conn) (IsShut (day_of setting accepted w out) conn)
       by_value None is = record { line = get-parts line_part w.held conn ∙ ap (option_map line_part) is; input = get-parts input_part w.held conn ∙ ap (option_map input_part) is }
       by_value (Some h) is = opens (line_part h) (input_part h) (get-parts line_part w.held conn ∙ ap (option_map line_part) is) (get-parts input_part w.held conn ∙ ap (option_map input_part) is)
+
+  -- one on which nothing may come has no line
+  pub paired : (w : Wires) → ArePaired (state_of accepted w)
+  paired w conn none = by_value (get w.held conn) refl
+    where
+      by_value : (o : Option Held) → get w.held conn ≡ o → line_of (core_of accepted w.held) conn ≡ None
+      by_value None is = get-parts line_part w.held conn ∙ ap (option_map line_part) is
+      by_value (Some h) is = absurd (let e : None ≡ Some (input_part h) = sym none ∙ get-parts input_part w.held conn ∙ ap (option_map input_part) is in cc)
 
   -- what an open connection holds
   pub open_held : (w : Wires) (conn : ℕ) → IsOpen (day_of setting accepted w out) conn → (h : Held) × (get w.held conn ≡ Some h)

@@ -14,3 +14,4 @@ pub mod JudgedFacts
 pub mod AcceptFacts
 pub mod ShrinkFacts
 pub mod EnterFacts
+pub mod Tells

@@ -9,14 +9,15 @@ use Rattle.t7_base.specs.declared.public.Public.{Public}
 use Rattle.t7_base.specs.Listing.{Listing}
 use Rattle.t7_layout.specs.Layouts.{Layout}
 use Rattle.t7_greedy.specs.Cuts.{IsFilled, IsLongestRun, cut_from, joined}
-use Rattle.t7_packets.specs.Packing.{IsWritable, datagram_bytes, message_size, of_messages, room_in}
+use Rattle.t7_eobi.specs.Sizes.{message_size, snap_size}
+use Rattle.t7_packets.specs.Packing.{IsWritable, datagram_bytes, of_messages, room_in}
 use Rattle.t7_entry.specs.Days.{before_others}
 use Rattle.t7_base.specs.declared.public.Resting.{Resting}
 use Rattle.t7_eobi.specs.declared.walks.Snap.TheVariants as snap
 use Rattle.t7_feed.specs.Arrivals.{Terms}
 use Rattle.t7_feed.specs.Cycles.{body_of}
-use Rattle.t7_feed.specs.Sending.{cycle_at, parts_of, snap_size}
-use Rattle.t7_exchange.specs.Outbox.{AreFilled, IsOutbox, Outbox, Ships, first_in, left_of, lists_of, passed, told}
+use Rattle.t7_feed.specs.Sending.{cycle_at, parts_of}
+use Rattle.t7_exchange.specs.Outbox.{AreFilled, IsOutbox, Outbox, Ships, first_in, left_of, lists_of, passed, pushed}
 
 -- lists behind others
 pub joined-append : (xs ys : List (List Public)) → joined (xs ++ ys) ≡ joined xs ++ joined ys
@@ -51,9 +52,9 @@ pub left_more : (begun : ℕ) (lists : List (List Public)) (ms : List Public) �
 left_more begun [] ms fresh = ap (λ n. drop n ms ∷ []) (fresh refl) ∙ ap (λ (x : List Public). x ∷ []) (drop_none ms)
 left_more begun (l ∷ lists) ms fresh = refl
 
--- the outbox after a command told its messages
-pub told_well : (out : Outbox) (next : ℕ) (ms : List Public) (spare : ℕ) → IsOutbox out next → All IsWritable ms → out.last + length ms ≤ 800_000 → IsOutbox (told out ms spare) next
-told_well out next ms spare is writable few =
+-- the outbox with the messages of a command more
+pub pushed_well : (out : Outbox) (next : ℕ) (ms : List Public) (spare : ℕ) → IsOutbox out next → All IsWritable ms → out.last + length ms ≤ 800_000 → IsOutbox (pushed out ms spare) next
+pushed_well out next ms spare is writable few =
     let long = joined-append out.untold (before_others ms []) in
     let all : joined (out.untold ++ before_others ms []) ≡ joined out.untold ++ ms = long ∙ ap (λ l. joined out.untold ++ l) (joined-before ms [] ∙ append-nil ms) in
     let count : length (joined (out.untold ++ before_others ms [])) ≡ length (joined out.untold) + length ms = ap length all ∙ length-append (joined out.untold) ms in

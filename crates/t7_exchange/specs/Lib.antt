@@ -9,4 +9,5 @@ pub mod Views
 pub mod Desks
 pub mod Trading
 pub mod Serving
+pub mod Paired
 pub mod Inside

@@ -7,13 +7,14 @@ use Rattle.t7_base.specs.Listing.{Listing}
 use Rattle.t7_base.specs.declared.public.Public.{Public}
 use Rattle.t7_layout.specs.Layouts.{Layout}
 use Rattle.t7_greedy.specs.Cuts.{IsFilled, IsLongestRun, joined}
-use Rattle.t7_packets.specs.Packing.{Datagram, IsWritable, datagram_bytes, message_size, of_messages, room_in}
+use Rattle.t7_eobi.specs.Sizes.{message_size}
+use Rattle.t7_packets.specs.Packing.{Datagram, IsWritable, datagram_bytes, of_messages, room_in}
 use Rattle.t7_entry.specs.Days.{before_others}
-use Rattle.t7_base.specs.declared.public.Resting.{Resting}
 use Rattle.t7_eobi.specs.declared.walks.Snap.{Snap}
 use Rattle.t7_feed.specs.Arrivals.{Terms}
 use Rattle.t7_feed.specs.Sending.{cycle_at, snap_datagram_bytes, under_way}
-use Rattle.t7_snapshot.specs.Sending.{CycleState}
+use Rattle.t7_snapshot.specs.Noting.{after_all}
+use Rattle.t7_snapshot.specs.Sending.{CycleState, fresh_sender}
 use Rattle.t7_exchange.specs.declared.sent.Sent.{Sent}
 
 -- what waits to be sent of one product, and what was sent
@@ -28,12 +29,12 @@ pub record Outbox : Type 0 where
   -- the sender of snapshot cycles, and how many snapshot datagrams were sent
   pub cycle : CycleState
   pub snaps : ℕ
-  -- for how many more commands' messages there is room
+  -- for how many more commands there is room in the list of those whose messages are still to be sent
   pub spare : ℕ
 
 -- nothing was told, and nothing was sent
-abbrev pub empty_outbox : Terms → ℕ → Outbox
-empty_outbox terms spare = record { untold = []; last = 0; live = 0; beats = 0; cycle = record { terms = terms; left = [] }; snaps = 0; spare = spare }
+abbrev pub empty_outbox : Terms → ℕ → ℕ → Outbox
+empty_outbox terms spare room = record { untold = []; last = 0; live = 0; beats = 0; cycle = fresh_sender terms room; snaps = 0; spare = spare }
 
 -- the messages of each command
 abbrev pub lists_of : List (Vec Public Global) → List (List Public)
@@ -65,9 +66,21 @@ pub record IsOutbox (out : Outbox) (next : ℕ) : Type 0 where
   pub live : out.live + length (joined out.untold) ≤ out.last + out.beats
   pub snaps : out.snaps ≤ 4_000_000_000
 
--- the messages of a command are told
-abbrev pub told : Outbox → List Public → ℕ → Outbox
-told out messages spare = record out { untold = out.untold ++ before_others messages []; last = out.last + length messages; spare = spare }
+-- the messages of a command are put behind those that are still to be sent
+abbrev pub pushed : Outbox → List Public → ℕ → Outbox
+pushed out messages spare = record out { untold = out.untold ++ before_others messages []; last = out.last + length messages; spare = spare }
+
+-- the sender of snapshot cycles notes messages
+abbrev pub all_noted : CycleState → List Public → ℕ → CycleState
+all_noted sender messages spare = record sender {
+  noted = sender.noted + length messages;
+  image = after_all sender.terms.listing.securities sender.image messages;
+  spare = spare;
+}
+
+-- the messages of a command are told: they are still to be sent, and the sender of snapshot cycles has noted them
+abbrev pub told : Outbox → List Public → ℕ → ℕ → Outbox
+told out messages spare room = record (pushed out messages spare) { cycle = all_noted out.cycle messages room }
 
 -- so many messages of the first command are sent in a datagram
 abbrev pub passed : Outbox → ℕ → ℕ → Outbox
@@ -92,15 +105,15 @@ pub record Ships (layouts : List Layout) (listing : Listing) (old new : Outbox) 
   pub goes_on : new ≡ passed old used new.spare
   pub put : IsPut layouts listing.segment (of_messages (old.live + 1) ((old.last - length (joined old.untold)) + 1) (take used (first_in old.untold))) old_out new_out sent
 
--- the cycle under way, or a new one of these orders beside the last message where none is
-abbrev pub frozen : Outbox → List Resting → Outbox
-frozen out orders = record out { cycle = record out.cycle { left = under_way out.cycle.left (cycle_at out.cycle.terms out.last orders) } }
+-- the cycle under way, or a new one of what was noted where none is
+abbrev pub frozen : Outbox → Outbox
+frozen out = record out { cycle = record out.cycle { left = under_way out.cycle.left (cycle_at out.cycle.terms out.cycle.noted out.cycle.image) } }
 
--- the next snapshot datagram of the cycle under way, or the first of a new one of these orders, is sent and handed out
-pub record Snaps (orders : List Resting) (old new : Outbox) (old_out new_out : List ℕ) (sent : Sent) : Type 0 where
+-- the next snapshot datagram of the cycle under way, or the first of a new one of what was noted, is sent and handed out
+pub record Snaps (old new : Outbox) (old_out new_out : List ℕ) (sent : Sent) : Type 0 where
   pub items : List Snap
-  pub next : (frozen old orders).cycle.left ≡ items ∷ new.cycle.left
+  pub next : (frozen old).cycle.left ≡ items ∷ new.cycle.left
   pub number : sent.number ≡ old.snaps + 1
   pub count : sent.len ≡ length (snap_datagram_bytes old.cycle.terms sent.number items)
   pub bytes : new_out ≡ snap_datagram_bytes old.cycle.terms sent.number items ++ drop sent.len old_out
-  pub goes_on : new ≡ record old { cycle = record old.cycle { left = new.cycle.left }; snaps = old.snaps + 1 }
+  pub goes_on : new ≡ record old { cycle = record old.cycle { left = new.cycle.left; spare = new.cycle.spare }; snaps = old.snaps + 1 }

@@ -9,7 +9,8 @@ use Rattle.t7_eti.specs.declared.response.Response.TheVariants as response
 use Rattle.t7_orders.specs.declared.response.Numbered.{Numbered}
 use Rattle.t7_book.specs.declared.command.Command.{Command}
 use Rattle.t7_book.specs.Steps.{messages, steps}
-use Rattle.t7_book.specs.Trace.{AreAccepted, trace}
+use Rattle.t7_book.specs.Orders.{empty_book, roster_of, shown}
+use Rattle.t7_book.specs.Trace.{AreAccepted, book_left, trace}
 use Rattle.t7_session.specs.declared.session.Step.TheVariants.{Ask}
 use Rattle.t7_session.specs.Held.{Held}
 use Rattle.t7_session.specs.Steps.{done_of, is_logon, step_of}
@@ -57,20 +58,27 @@ pub record Sends (accepted : List Command) (moment conn : ℕ) (h : Held) (asked
   pub acts : Acts accepted old new (λ core. send moment conn said (with_line core conn (counted (line_part h) asked)))
   pub inputs : inputs_of new.held ≡ insert (inputs_of old.held) conn (input_part (done_of h))
 
+-- the outbox has told the messages of the accepted commands: they are counted, and the sender of snapshot cycles has the orders that are shown of the book
+pub record HasTold (listing : Listing) (accepted : List Command) (out : Outbox) : Type 0 where
+  pub last : out.last ≡ length (trace listing accepted)
+  pub noted : out.cycle.noted ≡ length (trace listing accepted)
+  pub securities : out.cycle.terms.listing.securities ≡ listing.securities
+  pub image : out.cycle.image ≡ shown (book_left (empty_book (roster_of listing)) accepted).orders
+
 -- a command was entered: it is accepted, its messages are told, its responses are stored, and there is room for the replies
 pub record Enters (c : Command) (old new : Trading) (old_wires new_wires : Wires) (old_out new_out : Outbox) : Type 0 where
   pub desk : new ≡ entered old c
   pub wires : IsSame old_wires new_wires
   pub room : length new.fresh ≤ new_wires.spare
   pub sayable : All (λ (n : Numbered). IsSayable (response.Kept 0 n.what)) new.fresh
-  pub outbox : new_out ≡ told old_out (messages (steps (book_at old) c)) new_out.spare
+  pub outbox : new_out ≡ told old_out (messages (steps (book_at old) c)) new_out.spare new_out.cycle.spare
 
 -- it wasn't, and nothing has changed but what is known of the last command
 pub record Keeps (old new : Trading) (old_wires new_wires : Wires) (old_out new_out : Outbox) : Type 0 where
   pub roster : new.roster ≡ old.roster
   pub accepted : new.accepted ≡ old.accepted
   pub wires : IsSame old_wires new_wires
-  pub outbox : new_out ≡ record old_out { spare = new_out.spare }
+  pub outbox : new_out ≡ record old_out { spare = new_out.spare; cycle = record old_out.cycle { spare = new_out.cycle.spare } }
 
 -- a request was answered: the day went where the treatment of the frame leads
 pub record Orders (layouts : List Layout) (listing : Listing) (moment conn : ℕ) (asked : Request) (old new : Trading) (old_wires new_wires : Wires) (old_out new_out : Outbox) : Type 0 where
@@ -79,7 +87,7 @@ pub record Orders (layouts : List Layout) (listing : Listing) (moment conn : ℕ
   pub tellable : All IsTellable new.accepted
   pub ranged : AreRanged new.accepted
   pub terms : new_out.cycle.terms ≡ old_out.cycle.terms
-  pub last : new_out.last ≡ length (trace listing new.accepted)
+  pub told : HasTold listing new.accepted new_out
   pub only : HoldOnly listing.sessions old_wires.held → HoldOnly listing.sessions new_wires.held
   pub treated : (h : Held) → get old_wires.held conn ≡ Some h → step_of layouts h ≡ Ask asked
       → front_treated moment conn (day_of (record { layouts = layouts; listing = listing }) old.accepted old_wires old_out)

@@ -14,8 +14,9 @@ ghost use Rattle.t7_entry.specs.Days.{day_after, last_of, new_day};
 ghost use Rattle.t7_entry.specs.Stalls.{IsOpen, IsShut, Stalls, front_treated, taken, untreated_of};
 ghost use Rattle.t7_feed.specs.Arrivals.{AreTerms};
 ghost use Rattle.t7_feed.specs.Sending.{AreRanged};
-ghost use Rattle.t7_exchange.specs.Handed.{first_handed, first_refused_for, first_written};
+ghost use Rattle.t7_exchange.specs.Handed.{FirstIsSaid, first_handed, first_refused_for, first_written};
 ghost use Rattle.t7_exchange.specs.Outbox.{IsPut};
+ghost use Rattle.t7_exchange.specs.Paired.{ArePaired};
 ghost use Rattle.t7_exchange.specs.Sending.{IsSent, IsSnapped};
 
 use crate::desk::Desk;
@@ -208,12 +209,13 @@ impl<'t> Exchange<'t> {
         self.wires.next_refusal()
     }
 
-    /// The first reply that waits is taken off: a frame, which is written to the front of `out`, or a close. None exactly where
-    /// nothing waits.
+    /// The first reply that waits is taken off: a frame, which is written to the front of `out` and is read as the response that it says, or a
+    /// close. None exactly where nothing waits.
     pub fn next_reply(&mut self, out: &mut [u8]) -> Option<Reply>
         requires { 1024 ≤ length out.old }
         ensures reply { result ≡ first_handed self.old.setting.layouts self.old.waiting }
         ensures bytes { out.new ≡ first_written self.old.setting.layouts self.old.waiting out.old }
+        ensures said { FirstIsSaid self.old.setting.layouts self.old.waiting }
         ensures others { self.new ≡ record self.old { waiting = drop 1 self.old.waiting } }
     {
         ordinary_responses_may_be_written();
@@ -257,7 +259,7 @@ impl<'t> Exchange<'t> {
         ensures { IsSnapped self.old self.new out.old out.new result }
     {
         last_markets_are_books();
-        self.outbox.snap(self.desk.book(), out)
+        self.outbox.snap(out)
     }
 
     /// Whether a snapshot cycle is under way: datagrams of it are left.
@@ -267,12 +269,13 @@ impl<'t> Exchange<'t> {
         self.outbox.under_way()
     }
 
-    /// What always holds of the day: the layout table and the product are valid, the book refused none of the accepted commands, and
-    /// their fields are in their ranges.
+    /// What always holds of the day: the layout table and the product are valid, the book refused none of the accepted commands,
+    /// their fields are in their ranges, and a connection on which nothing may come has no line.
     pub fn is_sound(&self)
         ensures terms { AreTerms (record { layouts = self.now.setting.layouts; listing = self.now.setting.listing }) }
         ensures accepted { AreAccepted self.now.setting.listing self.now.state.core.accepted }
         ensures ranged { AreRanged self.now.state.core.accepted }
+        ensures paired { ArePaired self.now.state }
     {
         let _desk = &self.desk;
     }

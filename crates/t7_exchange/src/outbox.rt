@@ -3,18 +3,29 @@
 ghost use Rattle.std.specs.Prelude.{◌≡◌, ◌≢◌, ◌↔◌, ◌+◌, ◌<◌, ◌≤◌, [], length, IsTrue, IfOk, OnOk, OnErr, MatchOption, vec_len};
 ghost use Rattle.std.specs.List.{All};
 ghost use Rattle.t7_packets.specs.Packing.{IsWritable, of_beat};
-ghost use Rattle.t7_book.specs.Orders.{shown};
-ghost use Rattle.t7_exchange.specs.Outbox.{IsPut, Ships, Snaps, empty_outbox, first_in, frozen, passed, told};
+ghost use Rattle.t7_snapshot.specs.Noting.{FitInTurn};
+ghost use Rattle.t7_exchange.specs.Outbox.{IsPut, Ships, Snaps, all_noted, empty_outbox, first_in, frozen, passed, pushed, told};
 
 use crate::sent::Sent;
 use std::alloc::{AllocError, Global};
 use std::collections::VecDeque;
 use std::marker::Model;
 use t7_base::{Product, Public};
-use t7_book::Book;
 use t7_layout::Table;
 use t7_packets::{pack, pack_beat};
 use t7_snapshot::Cycle;
+
+// The sender of snapshot cycles notes messages, for which it has room, and which fit in turn what it noted so far.
+fn note_all(cycle: &mut Cycle<'_>, messages: &[Public])
+    requires room { length messages.now ≤ cycle.old.spare }
+    requires few { cycle.old.noted + length messages.now ≤ 4_000_000_000 }
+    requires fit { FitInTurn cycle.old.terms.listing.securities cycle.old.image messages.now }
+    ensures { cycle.new ≡ all_noted cycle.old messages.now cycle.new.spare }
+{
+    for message in messages {
+        cycle.note(message);
+    }
+}
 
 /// The messages that are still to be sent, those of each command in a list of its own, the snapshot cycle under way, and the numbers of
 /// the messages and of the datagrams of both channels: of one product.
@@ -52,7 +63,7 @@ impl<'t> Outbox<'t> {
         table: &'t Table,
         product: &'t Product,
     ) -> Result<Outbox<'t>, AllocError>
-        ensures { IfOk result (λ out. out ≡ empty_outbox (record { layouts = table.now; listing = product.now }) out.spare) }
+        ensures { IfOk result (λ out. out ≡ empty_outbox (record { layouts = table.now; listing = product.now }) out.spare out.cycle.spare) }
     {
         Ok(Outbox {
             queue: VecDeque::new(alloc),
@@ -74,20 +85,36 @@ impl<'t> Outbox<'t> {
         self.last
     }
 
-    /// Room for the messages of one command more. After an error nothing else has changed.
-    pub(crate) fn reserve(&mut self) -> Result<(), AllocError>
-        ensures same { self.new ≡ record self.old { spare = self.new.spare } }
+    /// Room for one command more, with so many messages. After an error nothing else has changed.
+    pub(crate) fn reserve(&mut self, messages: usize) -> Result<(), AllocError>
+        ensures same { self.new ≡ record self.old { spare = self.new.spare; cycle = record self.old.cycle { spare = self.new.cycle.spare } } }
         ensures room { OnOk result (1 ≤ self.new.spare) }
+        ensures noting { OnOk result (messages ≤ self.new.cycle.spare) }
     {
-        self.queue.reserve(1)
+        self.queue.reserve(1)?;
+        self.cycle.reserve(messages)
     }
 
-    /// The messages of a command are told.
-    pub(crate) fn push(&mut self, messages: Vec<Public>)
+    /// The messages of a command are told: they are to be sent, and the sender of snapshot cycles notes them.
+    pub(crate) fn tell(&mut self, messages: Vec<Public>)
         requires room { 1 ≤ self.old.spare }
         requires writable { All IsWritable messages.items }
         requires few { self.old.last + vec_len messages ≤ 800_000 }
-        ensures { self.new ≡ told self.old messages.items self.new.spare }
+        requires noting { length messages.items ≤ self.old.cycle.spare }
+        requires countable { self.old.cycle.noted + length messages.items ≤ 4_000_000_000 }
+        requires fit { FitInTurn self.old.cycle.terms.listing.securities self.old.cycle.image messages.items }
+        ensures { self.new ≡ told self.old messages.items self.new.spare self.new.cycle.spare }
+    {
+        note_all(&mut self.cycle, &messages);
+        self.push(messages);
+    }
+
+    // The messages of a command are put behind those that are still to be sent.
+    fn push(&mut self, messages: Vec<Public>)
+        requires room { 1 ≤ self.old.spare }
+        requires writable { All IsWritable messages.items }
+        requires few { self.old.last + vec_len messages ≤ 800_000 }
+        ensures { self.new ≡ pushed self.old messages.items self.new.spare }
     {
         self.last += messages.len() as u32;
         if !messages.is_empty() {
@@ -178,23 +205,23 @@ impl<'t> Outbox<'t> {
         self.cycle.under_way()
     }
 
-    // A new cycle begins with the book beside the last message, where none is under way.
-    fn freeze(&mut self, book: &Book)
-        ensures frozen { self.new ≡ frozen self.old (shown book.now.orders) }
+    // A new cycle begins with what was noted, where none is under way.
+    fn freeze(&mut self)
+        ensures frozen { self.new ≡ frozen self.old }
         ensures left { self.new.cycle.left ≢ [] }
     {
         if !self.cycle.under_way() {
-            self.cycle.begin(book, self.last);
+            self.cycle.begin();
         }
     }
 
-    /// The next snapshot datagram: of the cycle under way, or the first of a new one of the book beside the last message.
-    pub(crate) fn snap(&mut self, book: &Book, out: &mut [u8]) -> Sent
+    /// The next snapshot datagram: of the cycle under way, or the first of a new one of what was noted. No memory is taken.
+    pub(crate) fn snap(&mut self, out: &mut [u8]) -> Sent
         requires few { self.old.snaps < 4_000_000_000 }
         requires room { 1472 ≤ length out.old }
-        ensures { Snaps (shown book.now.orders) self.old self.new out.old out.new result }
+        ensures { Snaps self.old self.new out.old out.new result }
     {
-        self.freeze(book);
+        self.freeze();
         let number = self.snaps + 1;
         let len = self.cycle.next_packet(number, out);
         self.snaps = number;

@@ -11,7 +11,7 @@ ghost use Rattle.t7_eti.specs.Requests.{IsAskable, request_number};
 ghost use Rattle.t7_book.specs.Orders.{roster_of};
 ghost use Rattle.t7_book.specs.Commands.{IsForProduct, refusal};
 ghost use Rattle.t7_base.specs.Listing.{IsListing};
-ghost use Rattle.t7_book.specs.Trace.{AreAccepted, trace};
+ghost use Rattle.t7_book.specs.Trace.{AreAccepted};
 ghost use Rattle.t7_orders.specs.Judged.{IsOrder};
 ghost use Rattle.t7_entry.specs.Tellable.{IsTellable};
 ghost use Rattle.t7_feed.specs.Sending.{AreRanged};
@@ -20,7 +20,7 @@ ghost use Rattle.t7_entry.specs.ByNumber as numbers;
 ghost use Rattle.t7_entry.specs.State.{Setting};
 ghost use Rattle.t7_exchange.specs.Maps.{HoldOnly};
 ghost use Rattle.t7_exchange.specs.Sayable.{IsSayable};
-ghost use Rattle.t7_exchange.specs.Serving.{Enters, HasSession, IsSame, Keeps, MayAsk, Orders, Sends, Serves, WasAsked};
+ghost use Rattle.t7_exchange.specs.Serving.{Enters, HasSession, HasTold, IsSame, Keeps, MayAsk, Orders, Sends, Serves, WasAsked};
 ghost use Rattle.t7_exchange.specs.Trading.{book_at, stored_at};
 
 use crate::desk::Desk;
@@ -28,9 +28,10 @@ use crate::outbox::Outbox;
 use crate::wires::Wires;
 use std::alloc::{AllocError, Global};
 use t7_base::{Moment, Product, SessionId};
-use t7_book::Command;
-use t7_entry::responses_may_be_written;
+use t7_book::{Command, traces_grow};
+use t7_entry::{last_markets_are_books, responses_may_be_written};
 use t7_eti::{Reason, Request, Response};
+use t7_mbook::messages_fit;
 use t7_orders::command;
 use t7_session::heartbeat_interval;
 
@@ -168,19 +169,23 @@ pub(crate) fn enter(
     requires for_it { IsForProduct desk.old.roster command.now }
     requires allowed { refusal (book_at desk.old) command.now ≡ None }
     requires few { length desk.old.accepted < 200_000 }
-    requires last { outbox.old.last ≡ length (trace product.now desk.old.accepted) }
+    requires told { HasTold product.now desk.old.accepted outbox.old }
     requires tellable { All IsTellable desk.old.accepted }
     requires tells { IsTellable command.now }
     ensures ok { OnOk result (Enters command.now desk.old desk.new wires.old wires.new outbox.old outbox.new) }
+    ensures told { OnOk result (HasTold product.now desk.new.accepted outbox.new) }
     ensures err { OnErr result (Keeps desk.old desk.new wires.old wires.new outbox.old outbox.new) }
 {
     responses_may_be_written();
-    let most = 2 + 2 * (desk.book().len() + product.sessions().len());
-    wires.reserve(most)?;
-    outbox.reserve()?;
+    messages_fit();
+    traces_grow();
+    last_markets_are_books();
+    let orders = desk.book().len();
+    wires.reserve(2 + 2 * (orders + product.sessions().len()))?;
+    outbox.reserve(orders + 3)?;
     let mut told = Vec::new(alloc);
     desk.enter(product, command, &mut told)?;
-    outbox.push(told);
+    outbox.tell(told);
     Ok(())
 }
 
@@ -198,7 +203,7 @@ pub(crate) fn order(
     request: &Request,
 ) -> Result<(), AllocError>
     requires product { desk.old.roster ≡ roster_of product.now }
-    requires last { outbox.old.last ≡ length (trace product.now desk.old.accepted) }
+    requires told { HasTold product.now desk.old.accepted outbox.old }
     requires tellable { All IsTellable desk.old.accepted }
     requires ranged { AreRanged desk.old.accepted }
     requires order { IsOrder request.now }
@@ -240,7 +245,7 @@ pub(crate) fn answer(
     requires accepted { AreAccepted product.now desk.old.accepted }
     requires tellable { All IsTellable desk.old.accepted }
     requires ranged { AreRanged desk.old.accepted }
-    requires last { outbox.old.last ≡ length (trace product.now desk.old.accepted) }
+    requires told { HasTold product.now desk.old.accepted outbox.old }
     requires sessions { HoldOnly product.now.sessions wires.old.held }
     requires rises { numbers.Rises wires.old.held }
     requires may { MayAsk request.now (numbers.get wires.old.held conn) }

@@ -57,7 +57,7 @@ returns-in-Logon-clause-ok c = on_ok c.log_on.result (λ serves layouts.
       tellable = c.requires.tellable;
       ranged = c.requires.ranged;
       terms = refl;
-      last = c.requires.last;
+      told = c.requires.told;
       only = c.log_on.ensures.only;
       treated = λ h there stepped.
           front_served setting accepted c.args.outbox.now c.args.moment c.args.conn old h there new c.args.request.now stepped
@@ -76,7 +76,7 @@ returns-in-Logout-clause-ok c = on_ok c.log_out.result (λ serves layouts.
       tellable = c.requires.tellable;
       ranged = c.requires.ranged;
       terms = refl;
-      last = c.requires.last;
+      told = c.requires.told;
       only = c.log_out.ensures.only c.args.product.now.sessions;
       treated = λ h there stepped.
           front_served setting accepted c.args.outbox.now c.args.moment c.args.conn old h there new c.args.request.now stepped
@@ -95,7 +95,7 @@ returns-in-Resend-clause-ok c = on_ok c.send_range.result (λ serves layouts.
       tellable = c.requires.tellable;
       ranged = c.requires.ranged;
       terms = refl;
-      last = c.requires.last;
+      told = c.requires.told;
       only = c.send_range.ensures.only c.args.product.now.sessions;
       treated = λ h there stepped.
           front_served setting accepted c.args.outbox.now c.args.moment c.args.conn old h there new c.args.request.now stepped
@@ -116,7 +116,7 @@ returns-in-Heartbeat-clause-ok c = λ layouts.
       tellable = c.requires.tellable;
       ranged = c.requires.ranged;
       terms = refl;
-      last = c.requires.last;
+      told = c.requires.told;
       only = λ p. subst (HoldOnly c.args.product.now.sessions) (sym held) (only_changed c.args.product.now.sessions old.held conn done_of (λ h q. q) p);
       treated = λ h there stepped.
           let may = subst (MayAsk c.args.request.now) there c.requires.may in

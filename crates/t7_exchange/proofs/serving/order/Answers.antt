@@ -1,4 +1,4 @@
-use Rattle.std.proofs.Common.{◌≡◌, ◌+◌, ℕ, List, ◌∷◌, ◌++◌, [], length, Some, None, Ok, Err, refl, sym, ap, ◌∙◌, subst, arith}
+use Rattle.std.proofs.Common.{◌≡◌, ℕ, List, ◌∷◌, ◌++◌, [], length, Some, None, Ok, Err, refl, sym, ap, ◌∙◌, subst, arith}
 use Rattle.std.specs.List.{All}
 use Rattle.std.specs.Prelude.{Result}
 use Rattle.std.proofs.lemmas.List.Elements.{All-push}
@@ -10,7 +10,7 @@ use Rattle.t7_book.specs.declared.command.Command.{Command}
 use Rattle.t7_book.specs.Orders.{BookState, Roster, empty_book, roster_of}
 use Rattle.t7_book.specs.Commands.{IsForProduct, refusal}
 use Rattle.t7_book.specs.Steps.{messages, steps}
-use Rattle.t7_book.specs.Trace.{AreAccepted, AreAcceptedFrom, book_left, trace}
+use Rattle.t7_book.specs.Trace.{AreAccepted, AreAcceptedFrom, book_left}
 use Rattle.t7_orders.specs.declared.response.Numbered.{Numbered}
 use Rattle.t7_orders.specs.Answers.{answers_of, numbered, stored_from}
 use Rattle.t7_orders.specs.Judged.{judged}
@@ -28,7 +28,7 @@ use Rattle.t7_exchange.specs.Serving.{HasSession, WasAsked}
 use Rattle.t7_exchange.specs.Trading.{Trading, book_at}
 use Rattle.t7_exchange.specs.Views.{day_of, state_of}
 use Rattle.t7_exchange.specs.Wires.{Acts, Wires, core_of}
-use Rattle.t7_exchange.proofs.AcceptFacts.{last_more, ranged_more, was_accepted, went_accepted}
+use Rattle.t7_exchange.proofs.AcceptFacts.{ranged_more, was_accepted, went_accepted}
 use Rattle.t7_exchange.proofs.EnterFacts.{accepted_next, left_roster}
 use Rattle.t7_exchange.proofs.FrontFacts.{front_asked, front_served}
 use Rattle.t7_exchange.proofs.HoldFacts.{only_changed}
@@ -92,7 +92,7 @@ returns-in-Err-clause-ok c = on_ok c.reject.result (λ sends layouts.
       tellable = c.requires.tellable;
       ranged = c.requires.ranged;
       terms = refl;
-      last = c.requires.last;
+      told = c.requires.told;
       only = c.reject.ensures.only listing.sessions;
       treated = λ h there stepped.
           let was : h.asked ≡ Some asked = subst (WasAsked asked) there c.requires.asked in
@@ -137,10 +137,7 @@ returns-clause-ok c = λ layouts.
       tellable = subst (All IsTellable) (sym more) (All-push IsTellable accepted cmd c.requires.tellable tells);
       ranged = subst AreRanged (sym more) (ranged_more accepted cmd c.requires.ranged (fit.ranged c.get-nanoseconds.ensures.in_range));
       terms = ap (λ (o : Outbox). o.cycle.terms) e.outbox;
-      last =
-          ap (λ (o : Outbox). o.last) e.outbox
-          ∙ (λ i. c.requires.last i + length (messages (steps (book_is i) cmd)))
-          ∙ sym (last_more listing accepted cmd) ∙ ap (λ (l : List Command). length (trace listing l)) (sym more);
+      told = c.in_ok-enter.ensures.told;
       only = λ p. c.deliver.ensures.only listing.sessions (subst (HoldOnly listing.sessions) (sym b_is) (only_changed listing.sessions old.held conn done_of (λ h q. q) p));
       treated = λ h there stepped.
           let was : h.asked ≡ Some asked = subst (WasAsked asked) there c.requires.asked in

@@ -1,13 +1,12 @@
-use Rattle.std.proofs.Common.{◌≡◌, ◌+◌, ◌∷◌, ◌++◌, [], ℤ, ℕ, Bool, true, List, length, refl, sym, ap, ◌∙◌, subst, cond, ◌&&◌, arith}
+use Rattle.std.proofs.Common.{◌≡◌, ◌∷◌, ◌++◌, [], ℤ, ℕ, Bool, true, List, length, refl, sym, ap, ◌∙◌, subst, cond, ◌&&◌, arith}
 use Rattle.std.specs.Prelude.{Contains, nat_lt}
 use Rattle.std.specs.List.{All}
 use Rattle.std.proofs.lemmas.Bool.{lt-ltb}
 use Rattle.std.proofs.lemmas.List.Elements.{All-push}
-use Rattle.t7_book.specs.declared.command.Command.{Command}
 use Rattle.t7_book.specs.declared.command.Command.TheVariants as command
 use Rattle.t7_book.specs.Orders.{BookState, Roster, empty_book, roster_of}
 use Rattle.t7_book.specs.Steps.{messages, steps}
-use Rattle.t7_book.specs.Trace.{AreAccepted, book_left, trace}
+use Rattle.t7_book.specs.Trace.{AreAccepted, book_left}
 use Rattle.t7_orders.specs.declared.response.Numbered.{Numbered}
 use Rattle.t7_orders.specs.Answers.{answers_of, numbered, stored_from}
 use Rattle.t7_orders.specs.Judged.{is_listed}
@@ -22,7 +21,7 @@ use Rattle.t7_exchange.specs.Outbox.{Outbox}
 use Rattle.t7_exchange.specs.Trading.{Trading}
 use Rattle.t7_exchange.specs.Views.{day_of}
 use Rattle.t7_exchange.specs.Wires.{Acts, core_of}
-use Rattle.t7_exchange.proofs.AcceptFacts.{last_more, ranged_more, was_accepted, went_cleared}
+use Rattle.t7_exchange.proofs.AcceptFacts.{ranged_more, was_accepted, went_cleared}
 use Rattle.t7_exchange.proofs.EnterFacts.{accepted_more}
 use Rattle.t7_exchange.proofs.JudgedFacts.{listed_security}
 use Rattle.t7_exchange.proofs.exchange.Exchange.clear.Goals as goal
@@ -45,10 +44,7 @@ invariant_of-self-2 c =
       ranged = subst AreRanged (sym more) (ranged_more e.desk.accepted cmd was.ranged c.get-nanoseconds.ensures.in_range);
       sessions = c.deliver.ensures.only listing.sessions (subst (HoldOnly listing.sessions) (sym enters.wires.held) was.sessions);
       terms = ap (λ (o : Outbox). o.cycle.terms) enters.outbox ∙ was.terms;
-      last =
-          ap (λ (o : Outbox). o.last) enters.outbox
-          ∙ (λ i. was.last i + length (messages (steps (book_left (empty_book (was.roster i)) e.desk.accepted) cmd)))
-          ∙ sym (last_more listing e.desk.accepted cmd) ∙ ap (λ (l : List Command). length (trace listing l)) (sym more);
+      told = c.in_default.ensures.told;
     }
 
 -- the security is the product's, and the day takes a command more

@@ -21,7 +21,7 @@ invariant_of-self c =
       ranged = was.ranged;
       sessions = subst (λ (w : Wires). HoldOnly e.product.now.sessions w.held) (sym c.forget.ensures) (only_removed e.product.now.sessions e.wires.held c.args.conn was.sessions);
       terms = was.terms;
-      last = was.last;
+      told = was.told;
     }
 
 pub returns : goal.returns

@@ -53,4 +53,4 @@ returns c = by_option c.next_datagram.result c.next_datagram.ensures
     )
     by_option (Some s) is =
         subst (λ (d : Day). IsSent d now c.args.out.now c.next_datagram.new.out s) c.self.view_is
-        (sends setting c.self.inside.desk.accepted c.self.inside.wires c.self.inside.outbox c.next_datagram.new.self c.args.out.now c.next_datagram.new.out s c.self.invariant.last is)
+        (sends setting c.self.inside.desk.accepted c.self.inside.wires c.self.inside.outbox c.next_datagram.new.self c.args.out.now c.next_datagram.new.out s c.self.invariant.told.last is)

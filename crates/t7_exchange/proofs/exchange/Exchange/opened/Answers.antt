@@ -27,7 +27,7 @@ invariant_of-self c =
           (λ ok. subst (λ (w : Wires). HoldOnly sessions w.held) (sym ok) (only_opened sessions e.wires.held c.args.conn was.sessions))
           (λ err. subst (λ (w : Wires). HoldOnly sessions w.held) (sym err) was.sessions) c.open.ensures.ok c.open.ensures.err;
       terms = was.terms;
-      last = was.last;
+      told = was.told;
     }
 
 pub returns-clause-ok : goal.returns-clause-ok

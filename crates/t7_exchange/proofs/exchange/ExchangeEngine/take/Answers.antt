@@ -28,7 +28,7 @@ invariant_of-self c =
       ranged = was.ranged;
       sessions = subst (λ (w : Wires). HoldOnly sessions w.held) (sym c.feed.ensures.fed) (only_changed sessions e.wires.held c.args.conn (fed c.args.bytes.now c.feed.result c.args.moment) (λ h p. p) was.sessions);
       terms = was.terms;
-      last = was.last;
+      told = was.told;
     }
 
 pub returns-clause-count : goal.returns-clause-count

@@ -1,10 +1,10 @@
-use Rattle.std.proofs.Common.{◌≡◌, ℕ, List, length, Option, Some, None, refl, sym, ap, ◌∙◌, subst}
+use Rattle.std.proofs.Common.{◌≡◌, ℕ, List, Option, Some, None, refl, sym, ap, ◌∙◌, subst}
 use Rattle.std.specs.Prelude.{IfSome}
 use Rattle.std.specs.List.{All}
 use Rattle.t7_frames.specs.Frames.{front_of, not_yet}
 use Rattle.t7_eti.specs.declared.reason.Reason.{Reason}
 use Rattle.t7_book.specs.declared.command.Command.{Command}
-use Rattle.t7_book.specs.Trace.{AreAccepted, trace}
+use Rattle.t7_book.specs.Trace.{AreAccepted}
 use Rattle.t7_session.specs.declared.session.Step.{Step}
 use Rattle.t7_session.specs.declared.session.Step.TheVariants as step
 use Rattle.t7_session.specs.Held.{Held}
@@ -26,6 +26,7 @@ use Rattle.t7_exchange.proofs.FrontFacts.{front_refused}
 use Rattle.t7_exchange.proofs.HoldFacts.{only_changed}
 use Rattle.t7_exchange.proofs.MapFacts.{rises-changed}
 use Rattle.t7_exchange.proofs.ShrinkFacts.{front_nothing}
+use Rattle.t7_exchange.proofs.Tells.{told_kept}
 use Rattle.t7_exchange.proofs.WireFacts.{acts_from}
 use Rattle.t7_exchange.proofs.exchange.ExchangeEngine.treat_front.Goals as goal
 
@@ -54,7 +55,7 @@ invariant_of-self c =
       ranged = was.ranged;
       sessions = only_stepped e.product.now.sessions e.wires w conn step.NotYet c.in-NotYet.ensures.asks c.self.invariant.sessions;
       terms = was.terms;
-      last = was.last;
+      told = was.told;
     }
 
 pub invariant_of-self-in_err-reserve-in-Refuse : goal.invariant_of-self-in_err-reserve-in-Refuse
@@ -73,7 +74,7 @@ invariant_of-self-in_err-reserve-in-Refuse c =
       ranged = was.ranged;
       sessions = subst (HoldOnly e.product.now.sessions) (sym c.reserve.ensures.held) (only_stepped e.product.now.sessions e.wires w conn s c.in-Refuse.ensures.asks c.self.invariant.sessions);
       terms = was.terms;
-      last = was.last;
+      told = was.told;
     }
 
 pub invariant_of-self-in-Refuse : goal.invariant_of-self-in-Refuse
@@ -92,7 +93,7 @@ invariant_of-self-in-Refuse c =
       ranged = was.ranged;
       sessions = c.refuse.ensures.only e.product.now.sessions (subst (HoldOnly e.product.now.sessions) (sym c.reserve.ensures.held) (only_stepped e.product.now.sessions e.wires w conn s c.in-Refuse.ensures.asks c.self.invariant.sessions));
       terms = was.terms;
-      last = was.last;
+      told = was.told;
     }
 
 pub invariant_of-self-in_err-answer-in-Ask : goal.invariant_of-self-in_err-answer-in-Ask
@@ -112,7 +113,7 @@ invariant_of-self-in_err-answer-in-Ask c =
       ranged = subst AreRanged (sym keeps.accepted) was.ranged;
       sessions = subst (HoldOnly e.product.now.sessions) (sym keeps.wires.held) (only_stepped e.product.now.sessions e.wires w conn s c.in-Ask.ensures.asks c.self.invariant.sessions);
       terms = ap (λ (o : Outbox). o.cycle.terms) keeps.outbox ∙ was.terms;
-      last = ap (λ (o : Outbox). o.last) keeps.outbox ∙ was.last ∙ ap (λ (l : List Command). length (trace e.product.now l)) (sym keeps.accepted);
+      told = told_kept e.product.now e.desk.accepted c.answer.new.desk.accepted e.outbox c.answer.new.outbox keeps.accepted keeps.outbox was.told;
     }
 
 pub invariant_of-self-in-Ask : goal.invariant_of-self-in-Ask
@@ -132,7 +133,7 @@ invariant_of-self-in-Ask c =
       ranged = went.ranged;
       sessions = went.only (only_stepped e.product.now.sessions e.wires w conn s c.in-Ask.ensures.asks c.self.invariant.sessions);
       terms = went.terms ∙ was.terms;
-      last = went.last;
+      told = went.told;
     }
 
 pub answer-requires-clause-sessions : goal.answer-requires-clause-sessions

@@ -1,9 +1,9 @@
 use Rattle.std.proofs.Common.{ap, ◌∙◌, sym}
-use Rattle.t7_book.specs.Orders.{shown}
 use Rattle.t7_snapshot.specs.Sending.{CycleState}
 use Rattle.t7_exchange.proofs.OutboxFacts.{cycle_some}
 use Rattle.t7_exchange.proofs.outbox.Outbox.freeze.Goals as goal
 
 pub returns-then-not-under_way-clause-left : goal.returns-then-not-under_way-clause-left
 returns-then-not-under_way-clause-left c = λ none.
-    cycle_some c.self.inside.cycle.terms c.self.inside.last (shown c.args.book.now.orders) (sym (ap (λ (s : CycleState). s.left) c.begin.ensures) ∙ none)
+    let e = c.self.inside.cycle in
+    cycle_some e.terms e.noted e.image (sym (ap (λ (s : CycleState). s.left) c.begin.ensures) ∙ none)
