@@ -1,9 +1,7 @@
 -- What a client makes of what comes down.
-use Rattle.std.proofs.Common.{◌≡◌, ℕ, ◌+◌, ◌-◌, ◌^◌, ◌<◌, ◌≤◌, ◌==◌, Bool, true, false, cond, List, [], ◌∷◌, ◌++◌, length, map, Option, Some, None, refl, sym, ap, ◌∙◌, subst, arith, append_assoc}
+use Rattle.std.proofs.Common.{◌≡◌, ℕ, List, [], ◌∷◌, ◌++◌, map, Option, Some, None, refl, sym, ap, ◌∙◌, subst, append_assoc}
 use Rattle.std.specs.List.{AllByRecursion, concat}
 use Rattle.std.specs.Option.{option_map_or}
-use Rattle.t7_base.specs.Outside.{Begins}
-use Rattle.t7_eti.specs.declared.reason.Reason.{Reason}
 use Rattle.t7_eti.specs.declared.response.Kept.{Kept}
 use Rattle.t7_eti.specs.declared.response.Response.{Response}
 use Rattle.t7_eti.specs.declared.response.Response.TheVariants as response
@@ -13,11 +11,14 @@ use Rattle.t7_layout.specs.Layouts.{Layout}
 use Rattle.t7_layout.specs.Lookups.{IsTable}
 use Rattle.t7_recover.specs.Entries.{AreEntries, IsEntry}
 use Rattle.t7_client.specs.Fronts.{FrontsAreGathered, known_by, last_known, said_in}
-use Rattle.t7_client.specs.Hearing.{Heard, heard, heard_as, heard_behind, heard_by, response_by, split_with, treating}
+use Rattle.t7_client.specs.Hearing.{heard_as, heard_behind, heard_by, response_by, split_with, treating}
 use Rattle.t7_client.specs.Recovering.{Recovery}
-use Rattle.t7_dialog.specs.Coming.{Comes, WhatComesIsGathered}
-use Rattle.t7_dialog.specs.Saying.{AreSaid, bytes_of}
+use Rattle.t7_dialog.specs.Coming.{WhatComesIsGathered}
+use Rattle.t7_dialog.specs.Reaching.{AreInStep, Reached, reached_by}
+use Rattle.t7_dialog.specs.Saying.{AreSaid}
+use Rattle.t7_dialog.proofs.Keeping.{KeepsUpAs, again_reached, again_steps, keeps_by}
 use Rattle.t7_dialog.proofs.Parting.{halves, parts}
+use Rattle.t7_dialog.proofs.Reaching.{step_first}
 use Rattle.t7_dialog.proofs.Reading.{says}
 
 -- a response that is read again says the same of entries and of answers
@@ -99,5 +100,10 @@ what_comes law layouts stored client bytes coming left table same whole_is entri
       parts = both.whole;
       front = gathers.front;
       known = gathers.answer ∙ ap (λ (l : List Response). last_known l (known_by client)) said ∙ again_known layouts read (known_by client);
+      keeps_up = λ reached steps up.
+          let those = (step_first reached read both.later (subst (AreInStep reached) both.whole steps)).0 in
+          let bare : Recovery = record client { rest = [] } in
+          subst (λ (r : Reached). KeepsUpAs r (heard_by split.rest split.frames bare).client) (ap (reached_by reached) said ∙ again_reached layouts reached read)
+          (keeps_by reached split.rest split.frames bare (subst (AreInStep reached) (sym said) (again_steps layouts reached read those)) up);
       rest = λ fine. ap (λ (l : List ℕ). l ++ coming) (heard_rest split.rest split.frames (record client { rest = [] }) fine) ∙ apart_of.rest ∙ ap concat (sym both.others);
     }

@@ -15,7 +15,6 @@ use Rattle.t7_eti.specs.declared.response.Response.TheVariants as response
 use Rattle.t7_eti.specs.Saying.{request_bytes}
 use Rattle.t7_frames.specs.Frames.{IsFrame, front_of}
 use Rattle.t7_frames.specs.Split.{split_of}
-use Rattle.t7_layout.specs.Layouts.{Layout}
 use Rattle.t7_layout.specs.Lookups.{IsTable}
 use Rattle.t7_orders.specs.Answers.{responses}
 use Rattle.t7_orders.specs.Judged.{is_listed}
@@ -23,8 +22,9 @@ use Rattle.t7_recover.specs.Entries.{AreEntries, IsEntry}
 use Rattle.t7_session.specs.declared.session.Beat.{Beat}
 use Rattle.t7_session.specs.declared.session.Beat.TheVariants as beat
 use Rattle.t7_session.specs.Heartbeats.{beat_of, is_empty}
+use Rattle.t7_session.specs.Steps.{frame_step}
 use Rattle.t7_entry.specs.ByNumber.{ByNumber, contains_key, get, insert, keys, len, remove}
-use Rattle.t7_entry.specs.State.{Core, Doing, Input, Line, Outcome, Setting, State, and_then, fresh_input, fresh_line, held_of, line_of, pure, with_line}
+use Rattle.t7_entry.specs.State.{Core, Input, Line, Outcome, Setting, State, and_then, fresh_input, fresh_line, held_of, line_of, pure, with_line}
 use Rattle.t7_entry.specs.Stalls.{untreated_at}
 use Rattle.t7_entry.specs.Treatment.{accept, close, refuse, send, send_at, session_at, session_of, treat}
 use Rattle.t7_entry.specs.Events.{Bytes, Clear, Closed, Event, Opened, Result, Tick, bytes, bytes_at, clear, do_beat, end_frames, happens, is_bad, opened, refuse_open, settled, settled_at, settled_each, tick, tick_at, tick_each, treat_all, treat_bytes}
@@ -32,16 +32,18 @@ use Rattle.t7_entry.proofs.EntryFacts.{accept-accepted, accept-names, responses-
 use Rattle.t7_entry.proofs.Numbers.{apart, get-insert, get-insert-other, get-insert-same, get-remove, tied}
 use Rattle.t7_entry.proofs.Treated.{treat-names}
 use Rattle.t7_acts.proofs.Adding.{Extends}
-use Rattle.t7_acts.proofs.Happening.{happens-adds}
-use Rattle.t7_acts.proofs.Treating.{accept-adds, close-adds, refuse-adds, send-adds, treat-adds}
-use Rattle.t7_dialog.specs.Asking.{AreAsked, AreMade, IsMade}
+use Rattle.t7_acts.proofs.Treating.{accept-adds, close-adds, send-adds, treat-adds}
+use Rattle.t7_dialog.specs.Asking.{AreAsked, AreMade}
+use Rattle.t7_dialog.specs.Reaching.{Reached}
 use Rattle.t7_dialog.specs.Saying.{is_shut, said_on}
-use Rattle.t7_dialog.specs.Serving.{IsElsewhere, IsFor, IsServed, Serves}
+use Rattle.t7_dialog.specs.Serving.{IsElsewhere, IsFor, IsServed, IsTold, Serves, stored_for}
+use Rattle.t7_dialog.proofs.Holding.{told_within}
 use Rattle.t7_dialog.proofs.Moving.{Keeps, Moves, close_keeps, keeps_none, keeps_then, send_keeps}
 use Rattle.t7_dialog.proofs.Parting.{halves, parts}
 use Rattle.t7_dialog.proofs.Reading.{Writes, asks}
-use Rattle.t7_dialog.proofs.Saying.{entries_both, entries_stay, names_said, shut_first, shut_later}
-use Rattle.t7_dialog.proofs.Treating.{accept_keeps, of_step, refuse_keeps, treat_keeps}
+use Rattle.t7_dialog.proofs.Saying.{entries_both, entries_stay, names_said}
+use Rattle.t7_dialog.proofs.Telling as telling
+use Rattle.t7_dialog.proofs.Treating.{IsOfStep, accept_keeps, of_step, treat_keeps}
 
 begins_both : {A : Type 0} (xs ys zs : List A) → Begins xs ys → Begins ys zs → Begins xs zs
 begins_both xs ys zs one two = (one.0 ++ two.0, sym (append_assoc xs one.0 two.0) ∙ ap (λ l. l ++ two.0) one.1 ∙ two.1)
@@ -54,14 +56,15 @@ module _ (setting : Setting) (conn session : ℕ) where
   grown : (before after : List Command) → Begins before after → Begins (kept before) (kept after)
   grown before after begins = subst (λ (l : List Command). Begins (kept before) (kept l)) begins.1 (responses-begin setting.listing before begins.0 session)
 
-  -- an outcome accepts more, keeps the connection, and says entries on it
+  -- an outcome accepts more, keeps the connection, and says entries on it, each live one in its turn
   record Goes (a : Core) (o : Outcome) : Type 0 where
     grows : Begins a.accepted o.core.accepted
     keeps : Keeps conn session a o
     says : IsFor session (session_of a conn) → AreEntries (kept o.core.accepted) (said_on conn o.doings)
+    tells : IsFor session (session_of a conn) → telling.Goes setting conn session a o
 
   goes_none : (a : Core) → Goes a (pure a)
-  goes_none a = record { grows = ([], append-nil a.accepted); keeps = keeps_none conn session a; says = λ own. tt }
+  goes_none a = record { grows = ([], append-nil a.accepted); keeps = keeps_none conn session a; says = λ own. tt; tells = λ own. telling.none_goes setting conn session a }
 
   goes_then : (a : Core) (first : Outcome) (next : Core → Outcome) → Goes a first → ((k : Core) → Goes k (next k)) → Goes a (and_then first next)
   goes_then a first next one more =
@@ -73,6 +76,7 @@ module _ (setting : Setting) (conn session : ℕ) where
         says = λ own. entries_both (kept rest.core.accepted) conn first.doings rest.doings
             (entries_stay (kept first.core.accepted) (kept rest.core.accepted) (said_on conn first.doings) (grown first.core.accepted rest.core.accepted two.grows) (one.says own))
             (λ open_still. two.says ((one.keeps open_still).0 own));
+        tells = λ own. telling.goes_on setting conn session a first next (one.tells own) (λ open_still. two.tells ((one.keeps open_still).0 own));
       }
 
   extends : (a : Core) (o : Outcome) → Extends setting a o → Begins a.accepted o.core.accepted
@@ -104,6 +108,7 @@ module _ (setting : Setting) (conn session : ℕ) where
     grows = extends core (send moment other response.Beat core) (send-adds setting moment other response.Beat core);
     keeps = send_keeps conn session moment other response.Beat core;
     says = λ own. quiet_send _ moment other response.Beat core tt;
+    tells = λ own. telling.quiet_goes setting conn session moment other response.Beat core (λ r. (tt, refl));
   }
 
   goes_close : (other : ℕ) (core : Core) → Goes core (close other core)
@@ -111,6 +116,7 @@ module _ (setting : Setting) (conn session : ℕ) where
     grows = extends core (close other core) (close-adds setting other core);
     keeps = close_keeps conn session other core;
     says = λ own. quiet_close _ other core;
+    tells = λ own. telling.close_goes setting conn session other core;
   }
 
   goes_refuse : (moment other : ℕ) (core : Core) → Goes core (refuse moment other None BadLength core)
@@ -118,7 +124,12 @@ module _ (setting : Setting) (conn session : ℕ) where
   goes_refuse moment other core =
       let said = response.Reject None BadLength in
       goes_then core (send moment other said core) (close other)
-      (record { grows = extends core (send moment other said core) (send-adds setting moment other said core); keeps = send_keeps conn session moment other said core; says = λ own. quiet_send _ moment other said core tt })
+      (record {
+        grows = extends core (send moment other said core) (send-adds setting moment other said core);
+        keeps = send_keeps conn session moment other said core;
+        says = λ own. quiet_send _ moment other said core tt;
+        tells = λ own. telling.quiet_goes setting conn session moment other said core (λ r. (tt, refl));
+      })
       (λ k. goes_close other k)
 
   goes_test : (a : Core) (b : Bool) (first other : Outcome) → Goes a first → Goes a other → Goes a (cond b first other)
@@ -134,11 +145,13 @@ module _ (setting : Setting) (conn session : ℕ) where
   goes_end moment other rest core = goes_test core (is_bad (front_of rest)) (refuse_open moment other core (line_of core other)) (pure core) (goes_open moment other core (line_of core other)) (goes_none core)
 
   -- a frame: where it comes on the connection, one of the client's requests
-  goes_treat : (moment other : ℕ) (frame : List ℕ) (core : Core) → Keeps conn session core (treat setting moment other frame core) → Goes core (treat setting moment other frame core)
-  goes_treat moment other frame core keeps = record {
+  goes_treat : (moment other : ℕ) (frame : List ℕ) (core : Core) → (conn ≡ other → (l : Line) → IsOfStep session (frame_step setting.layouts l.session l.next frame))
+      → Goes core (treat setting moment other frame core)
+  goes_treat moment other frame core asks_own = record {
     grows = extends core (treat setting moment other frame core) (treat-adds setting moment other frame core);
-    keeps = keeps;
+    keeps = treat_keeps setting conn session moment other frame core asks_own;
     says = λ own. names_said setting.listing core _ conn session own (treat setting moment other frame core).doings (treat-names setting moment other frame core);
+    tells = λ own. telling.treat_goes setting conn session moment other frame core asks_own own;
   }
 
   goes_accept : (moment : ℕ) (c : Command) (core : Core) → Goes core (accept setting moment c core)
@@ -147,6 +160,7 @@ module _ (setting : Setting) (conn session : ℕ) where
     keeps = accept_keeps setting conn session moment c core;
     says = λ own. subst (λ (cs : List Command). AreEntries (kept cs) (said_on conn (accept setting moment c core).doings)) (sym (accept-accepted setting moment c core))
         (names_said setting.listing core (core.accepted ++ c ∷ []) conn session own (accept setting moment c core).doings (accept-names setting core moment c core (λ d. refl)));
+    tells = λ own. telling.accept_goes setting conn session moment c core;
   }
 
   -- frames of another connection
@@ -155,7 +169,7 @@ module _ (setting : Setting) (conn session : ℕ) where
   goes_others moment other [] core apart_is = goes_none core
   goes_others moment other (frame ∷ frames) core apart_is =
       goes_then core (treat setting moment other frame core) (treat_all setting moment other frames)
-      (goes_treat moment other frame core (treat_keeps setting conn session moment other frame core (λ here. absurd (apart_is here))))
+      (goes_treat moment other frame core (λ here. absurd (apart_is here)))
       (λ k. goes_others moment other frames k apart_is)
 
   -- requests of the client
@@ -167,7 +181,7 @@ module _ (setting : Setting) (conn session : ℕ) where
       let frame = request_bytes setting.layouts asked in
       let reads = asks law setting.layouts session asked table made.0 in
       goes_then core (treat setting moment conn frame core) (treat_all setting moment conn (map (request_bytes setting.layouts) requests))
-      (goes_treat moment conn frame core (treat_keeps setting conn session moment conn frame core (λ here l. of_step setting.layouts session l.session l.next frame asked reads.asked made.0.own)))
+      (goes_treat moment conn frame core (λ here l. of_step setting.layouts session l.session l.next frame asked reads.asked made.0.own))
       (λ k. goes_own law table moment requests k made.1)
 
   -- each connection has its heartbeat
@@ -200,6 +214,7 @@ module _ (setting : Setting) (conn session : ℕ) where
   serves_same unsent state o inputs goes is same = record {
     grows = goes.grows;
     entries = goes.says is.own;
+    telling = λ reached paired told. goes.tells is.own reached told;
     served = λ open_still.
         let moves = goes.keeps open_still in
         let there = same open_still in
@@ -256,6 +271,7 @@ module _ (setting : Setting) (conn session : ℕ) where
       record {
         grows = goes.grows;
         entries = goes.says is.own;
+        telling = λ reached paired told. goes.tells is.own reached told;
         served = λ open_still. by_line o.core now (line_of o.core conn) refl (goes.keeps open_still)
             (record { requests = both.later; whole = apart_of.rest ∙ ap concat (sym both.others); made = made.1 });
       }
@@ -336,6 +352,7 @@ module _ (setting : Setting) (conn session : ℕ) where
       by_test (contains_key state.inputs other || nat_le 1024 (len state.inputs)) unsent state _ _ (λ _. unchanged_serves unsent state is) (λ none. record {
         grows = ([], append-nil state.core.accepted);
         entries = tt;
+        telling = λ reached paired told. record { step = tt; told = λ _. told_by reached (eq_by_cmp nat_cmp conn other) refl (or_first (contains_key state.inputs other) (nat_le 1024 (len state.inputs)) none) paired told };
         served = λ _. by (eq_by_cmp nat_cmp conn other) refl (or_first (contains_key state.inputs other) (nat_le 1024 (len state.inputs)) none);
       })
     where
@@ -344,6 +361,23 @@ module _ (setting : Setting) (conn session : ℕ) where
 
       inputs : ByNumber Input
       inputs = insert state.inputs other fresh_input
+
+      at : (d : ℕ) (b : Bool) → eq_by_cmp nat_cmp d other ≡ b → session_of core d ≡ session_at (cond b (Some fresh_line) (line_of state.core d))
+      at d b e = ap session_at (get-insert state.core.lines other fresh_line d) ∙ ap (λ (x : Bool). session_at (cond x (Some fresh_line) (line_of state.core d))) e
+
+      within : (d : ℕ) → session_of core d ≡ Some session → session_of state.core d ≡ Some session
+      within d there = within_by (eq_by_cmp nat_cmp d other) refl
+        where
+          within_by : (b : Bool) → eq_by_cmp nat_cmp d other ≡ b → session_of state.core d ≡ Some session
+          within_by true e = absurd (let no : None ≡ Some session = sym (at d true e) ∙ there in cc)
+          within_by false e = sym (at d false e) ∙ there
+
+      told_by : (reached : Reached) (b : Bool) → eq_by_cmp nat_cmp conn other ≡ b → contains_key state.inputs other ≡ false → (get state.inputs conn ≡ None → line_of state.core conn ≡ None)
+          → IsTold conn session (stored_for setting session state.core) reached state.core → IsTold conn session (stored_for setting session state.core) reached core
+      told_by reached true e none paired told =
+          let before : get state.inputs conn ≡ None = ap (get state.inputs) (tied conn other e) ∙ none_of (get state.inputs other) none in
+          told_within conn session (stored_for setting session state.core) reached state.core core (at conn true e ∙ sym (ap session_at (paired before))) within told
+      told_by reached false e none paired told = told_within conn session (stored_for setting session state.core) reached state.core core (at conn false e) within told
 
       by : (b : Bool) → eq_by_cmp nat_cmp conn other ≡ b → contains_key state.inputs other ≡ false → IsServed setting conn session unsent (record { core = core; inputs = inputs })
       by true e none =
@@ -375,12 +409,26 @@ module _ (setting : Setting) (conn session : ℕ) where
       record {
         grows = ([], append-nil state.core.accepted);
         entries = tt;
+        telling = λ reached paired told. record {
+          step = tt;
+          told = λ _. told_within conn session (stored_for setting session state.core) reached state.core left (ap session_at line) within told;
+        };
         served = λ _. record {
           own = subst (λ (l : Option Line). IsFor session (session_at l)) (sym line) is.own;
           shut = λ gone_is. input ∙ is.shut (sym line ∙ gone_is);
           asked = subst (λ (i : Option Input). AreAsked setting.layouts session (untreated_at i ++ unsent)) (sym input) is.asked;
         };
       }
+    where
+      left : Core
+      left = record { accepted = state.core.accepted; lines = remove state.core.lines other }
+
+      within : (d : ℕ) → session_of left d ≡ Some session → session_of state.core d ≡ Some session
+      within d there = by (eq_by_cmp nat_cmp d other) (sym (ap session_at (get-remove state.core.lines other d)) ∙ there)
+        where
+          by : (b : Bool) → session_at (cond b None (line_of state.core d)) ≡ Some session → session_of state.core d ≡ Some session
+          by true e = absurd (let no : None ≡ Some session = e in cc)
+          by false e = e
 
   clears : (unsent : List ℕ) (security : ℤ) (moment : ℕ) (state : State) → IsServed setting conn session unsent state → Serves setting conn session unsent state (clear setting security moment state)
   clears unsent security moment state is =

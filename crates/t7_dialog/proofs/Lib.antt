@@ -1,8 +1,14 @@
 pub mod Parting
 pub mod Reading
 pub mod Saying
+pub mod Reaching
+pub mod Keeping
+pub mod Holding
+pub mod Telling
 pub mod Moving
 pub mod Treating
 pub mod Happening
 pub mod Coming
 pub mod Queueing
+pub mod Making
+pub mod Knowing

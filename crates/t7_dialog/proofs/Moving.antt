@@ -1,13 +1,11 @@
 -- What is done leaves a connection with no other session than a client's, and open unless it closes it.
-use Rattle.std.proofs.Common.{◌≡◌, ℕ, Bool, true, false, cond, List, [], ◌∷◌, ◌++◌, Option, Some, None, refl, sym, ap, ◌∙◌, subst, eq-eqb}
+use Rattle.std.proofs.Common.{◌≡◌, ℕ, Bool, true, false, cond, Option, Some, None, refl, sym, ap, ◌∙◌, subst, eq-eqb}
 use Rattle.std.specs.Prelude.{◌==◌}
-use Rattle.std.proofs.lemmas.Bool.{eqb-true}
 use Rattle.std.specs.Ordering.{nat_cmp, eq_by_cmp}
 use Rattle.t7_eti.specs.declared.response.Response.{Response}
-use Rattle.t7_entry.specs.ByNumber.{ByNumber, get, remove}
-use Rattle.t7_entry.specs.State.{Core, Doing, Line, Outcome, and_then, closes, line_of, pure, replies, sends, with_line}
+use Rattle.t7_entry.specs.ByNumber.{remove}
+use Rattle.t7_entry.specs.State.{Core, Line, Outcome, and_then, line_of, pure, with_line}
 use Rattle.t7_entry.specs.Treatment.{close, send, send_at, session_at, session_of}
-use Rattle.t7_entry.proofs.EntryFacts.{same_session}
 use Rattle.t7_entry.proofs.Numbers.{apart, get-insert, get-remove, tied}
 use Rattle.t7_dialog.specs.Saying.{is_shut}
 use Rattle.t7_dialog.specs.Serving.{IsFor}

@@ -1,5 +1,5 @@
 -- What a client queues as it hears bytes.
-use Rattle.std.proofs.Common.{◌≡◌, ℕ, suc, zero, ◌+◌, ◌-◌, ◌^◌, ◌<◌, ◌≤◌, ◌==◌, Bool, true, false, cond, List, [], ◌∷◌, ◌++◌, length, map, Option, Some, None, refl, sym, ap, ◌∙◌, subst, arith, append_assoc, length-append}
+use Rattle.std.proofs.Common.{◌≡◌, ℕ, ◌+◌, ◌-◌, ◌^◌, ◌≤◌, ◌==◌, Bool, true, false, cond, List, [], ◌∷◌, ◌++◌, length, map, Option, Some, None, refl, sym, ap, ◌∙◌, arith, append_assoc, length-append}
 use Rattle.std.proofs.lemmas.List.{append-nil, map-append}
 use Rattle.std.proofs.lemmas.List.Folds.{concat-append}
 use Rattle.std.specs.List.{concat}
@@ -12,13 +12,13 @@ use Rattle.t7_eti.specs.Saying.{request_bytes}
 use Rattle.t7_frames.specs.Frames.{Front, bad_length, front_of, not_yet, whole}
 use Rattle.t7_layout.specs.Layouts.{Layout}
 use Rattle.t7_client.specs.declared.machine.Answer.{Answer}
-use Rattle.t7_client.specs.Hearing.{heard, heard_as, heard_behind, heard_by, response_by, split_with, treating}
+use Rattle.t7_client.specs.Hearing.{heard_as, heard_behind, heard_by, response_by, split_with, treating}
 use Rattle.t7_client.specs.Recovering.{Recovery, after, asking, asking_again, gathering, is_due}
 use Rattle.t7_dialog.specs.Coming.{AreResends, ClientsAsk, IsResend, Queues}
 
 -- requests stay below greater bounds
 more_resend : (n m k l : ℕ) (asked : Request) → n ≤ m → k ≤ l → IsResend n k asked → IsResend m l asked
-more_resend n m k l (request.Resend seq after upto) next count is = let a = is.0 in let b = is.1 in (omega (arith, a, next), omega (arith, b, count))
+more_resend n m k l (request.Resend seq after upto) next count is = let a = is.0 in let b = is.1 in (omega (arith, a, next), omega (arith, b, count), is.2)
 more_resend n m k l (request.Logon seq heart session) next count is = absurd is
 more_resend n m k l (request.Logout seq) next count is = absurd is
 more_resend n m k l request.Heartbeat next count is = absurd is
@@ -78,7 +78,7 @@ asking_queues : (client : Recovery) → Queues client (asking client)
 asking_queues client = record {
   asked = request.Resend client.next (length client.gathered) (2 ^ 128 - 1) ∷ [];
   queue = ap (λ (q : List ℕ). client.queue ++ q) (sym (append-nil (request_bytes client.layouts (request.Resend client.next (length client.gathered) (2 ^ 128 - 1)))));
-  each = ((omega arith, omega arith), tt);
+  each = ((omega arith, omega arith, refl), tt);
   numbers = omega arith;
   grown = omega arith;
   layouts = refl;

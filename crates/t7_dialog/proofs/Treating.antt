@@ -1,5 +1,5 @@
 -- What a frame leaves of a connection.
-use Rattle.std.proofs.Common.{◌≡◌, ℕ, ◌+◌, Bool, true, false, cond, not, List, [], ◌∷◌, ◌++◌, length, Option, Some, None, is_some, Result, Ok, Err, refl, sym, ap, ◌∙◌, subst}
+use Rattle.std.proofs.Common.{◌≡◌, ℕ, ◌+◌, Bool, true, false, cond, not, List, [], ◌∷◌, ◌++◌, length, Option, Some, None, is_some, Result, Ok, Err, refl}
 use Rattle.std.specs.List.{list_any}
 use Rattle.std.specs.Prelude.{◌==◌, ◌&&◌}
 use Rattle.t7_eti.specs.declared.reason.Reason.{Reason}
@@ -22,11 +22,10 @@ use Rattle.t7_orders.specs.declared.response.Numbered.{Numbered}
 use Rattle.t7_orders.specs.Answers.{answers_of, numbered, responses, stored}
 use Rattle.t7_orders.specs.Judged.{judged}
 use Rattle.t7_recover.specs.Ranges.{is_bad_range, range_of}
-use Rattle.t7_entry.specs.State.{Core, Line, Setting, book_of, closes, line_of, sends, tells, with_line}
-use Rattle.t7_entry.specs.Treatment.{accept, answer, close, counted, deliver, deliver_at, holder, log_on, ordered, refuse, send, send_again, send_at, send_range, serve, treat, treat_at, treat_step}
+use Rattle.t7_entry.specs.State.{Core, Line, Setting, book_of, line_of, tells, with_line}
+use Rattle.t7_entry.specs.Treatment.{accept, answer, close, counted, deliver, deliver_at, holder, log_on, ordered, refuse, send, send_again, send_range, serve, treat, treat_at, treat_step}
 use Rattle.t7_dialog.specs.Asking.{IsOf}
-use Rattle.t7_dialog.specs.Serving.{IsFor}
-use Rattle.t7_dialog.proofs.Moving.{Keeps, Moves, close_keeps, keeps_from, keeps_none, keeps_test, keeps_then, moves_as, moves_line, send_keeps}
+use Rattle.t7_dialog.proofs.Moving.{Keeps, close_keeps, keeps_from, keeps_none, keeps_test, keeps_then, moves_line, send_keeps}
 
 -- a request that is asked is of the client's session, where it comes on the client's connection
 abbrev pub IsOfStep : ℕ → Step → Type 0

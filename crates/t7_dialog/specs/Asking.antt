@@ -8,7 +8,7 @@ use Rattle.t7_eti.specs.declared.request.Request.TheVariants as request
 use Rattle.t7_eti.specs.Requests.{IsAskable}
 use Rattle.t7_eti.specs.Saying.{EachOrdinary, request_bytes, request_fields}
 
--- a request that logs on is of this session
+-- a request that logs on names the session
 abbrev pub IsOf : ℕ → Request → Type 0
 IsOf session (request.Logon seq heart other) = other ≡ session
 IsOf session other = Unit {0}

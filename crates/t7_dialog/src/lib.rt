@@ -2,6 +2,7 @@
 #![tactic(auto)]
 
 ghost use Rattle.t7_dialog.specs.Coming.{ClientsAsk, WhatComesIsGathered};
+ghost use Rattle.t7_dialog.specs.Knowing.{AnswersNameWhatIsStored};
 ghost use Rattle.t7_dialog.specs.Serving.{ClientsAreServed};
 
 use t7_client::fronts_are_gathered;
@@ -26,4 +27,9 @@ pub fn what_comes_is_gathered()
 /// A client that hears bytes queues requests for responses and nothing else, and loses nothing of its list.
 pub fn clients_ask_for_responses()
     ensures { ClientsAsk }
+{}
+
+/// Each answer to a request for responses says how many responses were stored for the session of its connection when the frame of the request was treated.
+pub fn answers_name_what_is_stored()
+    ensures { AnswersNameWhatIsStored }
 {}
