@@ -5,6 +5,7 @@ ghost use Rattle.std.specs.Prelude.{true, None, IfOk, IfErr, OnOk, OnErr};
 ghost use Rattle.t7_eti.specs.declared.request.Request.TheVariants as request;
 ghost use Rattle.t7_eti.specs.Saying.{side_number};
 ghost use Rattle.t7_client.specs.Hearing.{Stays, StopsBy, heard};
+ghost use Rattle.t7_client.specs.Sound.{IsSound};
 ghost use Rattle.t7_client.specs.Recovering.{cut, dialed, is_recovered, making, new_recovery};
 
 use crate::fault::ClientFault;
@@ -161,6 +162,15 @@ impl<'t> Client<'t> {
         ensures { result.now ≡ self.now.gathered }
     {
         self.machine.responses()
+    }
+
+    /// What always holds of a client: its session is one of a product, the numbers of its requests and the bytes that came since its dial are within
+    /// their limits, and its responses are no more than fit in memory. No memory is taken.
+    pub fn is_sound(&self)
+        ensures sound { IsSound self.now }
+        ensures few { length self.now.gathered < 2 ^ 64 }
+    {
+        let _count = self.machine.responses().len();
     }
 
     /// Whether it has as many responses as were kept by the last answer that came since the dial. False where no answer

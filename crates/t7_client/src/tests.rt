@@ -1,8 +1,6 @@
 // A client's connections, against frames that are worked by hand from the manuals' layouts.
 
-ghost use Rattle.std.specs.Prelude.{◌≡◌, ◌≤◌, ◌+◌, length, true};
-
-use crate::{Client, ClientFault};
+use crate::Client;
 use std::alloc::{AllocError, Global};
 use std::process::Abort;
 use std::test::Fail;
@@ -11,12 +9,11 @@ use t7_eti::{Kept, Reason};
 use t7_layout::Table;
 use t7_sample::SAMPLE;
 
-// What comes down: a LogonResponse, a LogoutResponse, a Reject with a SessionRejectReason, an answer with its ApplEndMsgID
+// What comes down: a LogonResponse, a Reject with a SessionRejectReason, an answer with its ApplEndMsgID
 // and RefApplLastMsgID, and a NewOrderResponse with its ApplMsgID, which is its OrderID too.
 #[derive(Clone, Copy, Debug)]
 enum Down {
     LoggedOn,
-    LoggedOut,
     Rejected(u8),
     Answer(u8, u8),
     New(u8),
@@ -26,7 +23,6 @@ enum Down {
 fn push_frame(stream: &mut Vec<u8>, frame: Down) -> Result<(), AllocError> {
     match frame {
         Down::LoggedOn => stream.extend_from_slice(b"\x10\0\0\0\xc9\0\0\0\x01\0\0\00u\0\0"),
-        Down::LoggedOut => stream.extend_from_slice(b"\x10\0\0\0\xca\0\0\0\x03\0\0\0\0\0\0\0"),
         Down::Rejected(reason) => {
             stream.extend_from_slice(b"\x10\0\0\0\xcc\0\0\0\x01\0\0\0")?;
             stream.extend_from_slice(&[reason, 0, 0, 0])
@@ -55,103 +51,6 @@ fn stream_of(alloc: Global, frames: &[Down]) -> Result<Vec<u8>, AllocError> {
     Ok(stream)
 }
 
-// Bytes come down in two pieces. The fault that they meet, if they do.
-fn fault_of(client: &mut Client<'_>, stream: &[u8], cut: usize) -> Option<ClientFault>
-    requires dialed { client.old.dialed ≡ true }
-    requires few { client.old.treated + length client.old.rest + length stream.now ≤ 65536 }
-{
-    let (first, second) = stream.split_at(stream.len().min(cut));
-    if let Err(fault) = client.down(first) {
-        return Some(fault);
-    }
-    client.down(second).err()
-}
-
-// Connections with responses that come live before, between and behind those that are sent again, with answers that say
-// that more are kept than they send: how many are gathered, whether the client is recovered, and how often it asked.
-static CASES: [(&[Down], usize, bool, usize); 10] = [
-    (
-        &[
-            Down::LoggedOn,
-            Down::Answer(2, 2),
-            Down::New(1),
-            Down::New(2),
-        ],
-        2,
-        true,
-        1,
-    ),
-    (
-        &[Down::LoggedOn, Down::Answer(2, 2), Down::New(1)],
-        1,
-        false,
-        1,
-    ),
-    (&[Down::LoggedOn, Down::Answer(0, 0)], 0, true, 1),
-    (&[Down::LoggedOn, Down::New(1)], 1, false, 1),
-    (
-        &[
-            Down::LoggedOn,
-            Down::New(1),
-            Down::Answer(1, 1),
-            Down::New(1),
-        ],
-        1,
-        true,
-        1,
-    ),
-    (
-        &[
-            Down::LoggedOn,
-            Down::Answer(1, 1),
-            Down::New(1),
-            Down::New(2),
-        ],
-        2,
-        true,
-        1,
-    ),
-    (
-        &[
-            Down::LoggedOn,
-            Down::Answer(2, 3),
-            Down::New(3),
-            Down::New(1),
-            Down::New(2),
-            Down::Answer(3, 3),
-            Down::New(3),
-        ],
-        3,
-        true,
-        2,
-    ),
-    (
-        &[
-            Down::LoggedOn,
-            Down::Answer(1, 3),
-            Down::New(1),
-            Down::New(2),
-        ],
-        2,
-        false,
-        2,
-    ),
-    (&[Down::LoggedOn, Down::Answer(0, 2)], 0, false, 2),
-    (
-        &[
-            Down::LoggedOn,
-            Down::Answer(2, 3),
-            Down::Answer(3, 3),
-            Down::New(1),
-            Down::New(2),
-            Down::New(3),
-        ],
-        3,
-        true,
-        1,
-    ),
-];
-
 // A client that gathered responses has those of these numbers.
 fn assert_responses(rt: &impl Abort, client: &Client<'_>) -> Result<(), Fail> {
     let stamp = Stamp::new(1).ok_or("stamp")?;
@@ -162,88 +61,6 @@ fn assert_responses(rt: &impl Abort, client: &Client<'_>) -> Result<(), Fail> {
             stamp,
         };
         assert_eq!(rt; *kept, wanted, "{i}");
-    }
-    Ok(())
-}
-
-// A client that dialed, and heard a stream in two pieces.
-fn heard<'t>(
-    alloc: Global,
-    table: &'t Table,
-    stream: &[u8],
-    cut: usize,
-) -> Result<(Client<'t>, Option<ClientFault>), AllocError>
-    requires { length stream.now ≤ 4096 }
-{
-    let mut client = Client::new(alloc, table, SessionId(21))?;
-    client.dial()?;
-    let fault = fault_of(&mut client, stream, cut);
-    Ok((client, fault))
-}
-
-#[test]
-fn responses_are_gathered_in_any_cutting(rt: HostRuntime) -> Result<(), Fail> {
-    let alloc = rt.alloc();
-    let table = Table::read(alloc, SAMPLE.as_bytes())?;
-    for &(frames, gathered, recovered, asked) in &CASES {
-        let stream = stream_of(alloc, frames)?;
-        assert!(rt; stream.len() <= 4096);
-        for cut in 0..=stream.len() {
-            let (client, fault) = heard(alloc, &table, &stream, cut)?;
-            assert_eq!(rt; fault, None, "{frames:?} cut at {cut}");
-            assert_eq!(rt;
-                client.responses().len(),
-                gathered,
-                "{frames:?} cut at {cut}"
-            );
-            assert_eq!(rt; client.is_recovered(), recovered, "{frames:?} cut at {cut}");
-            assert_eq!(rt;
-                client.pending().saturating_sub(24) / 48,
-                asked,
-                "{frames:?} cut at {cut}"
-            );
-            assert!(rt; client.logged_on());
-            assert_responses(&rt, &client)?;
-        }
-    }
-    Ok(())
-}
-
-// Bytes that are no response: lengths of 7 and of 4,097, no template, a request's, a frame that is shorter than its
-// template, a MsgSeqNum without a value, and a reason 18.
-static MISFITS: [&[u8]; 7] = [
-    b"\x07\0\0\0",
-    b"\x01\x10\0\0",
-    b"\x08\0\0\0\xe7\x03\0\0",
-    b"\x10\0\0\0\x66\0\0\0\x03\0\0\0\0\0\0\0",
-    b"\x08\0\0\0\xc9\0\0\0",
-    b"\x10\0\0\0\xc9\0\0\0\xff\xff\xff\xff0u\0\0",
-    b"\x10\0\0\0\xcc\0\0\0\x01\0\0\0\x12\0\0\0",
-];
-
-#[test]
-fn a_misfit_is_told_at_its_place(rt: HostRuntime) -> Result<(), Fail> {
-    let alloc = rt.alloc();
-    let table = Table::read(alloc, SAMPLE.as_bytes())?;
-    for misfit in &MISFITS {
-        let mut stream = stream_of(alloc, &[Down::LoggedOn, Down::Answer(2, 2), Down::New(1)])?;
-        stream.extend_from_slice(misfit)?;
-        stream.extend_from_slice(b"more")?;
-        assert!(rt; stream.len() <= 4096);
-        for cut in 0..=stream.len() {
-            let (client, fault) = heard(alloc, &table, &stream, cut)?;
-            assert_eq!(rt;
-                fault,
-                Some(ClientFault::Misfit { place: 112 }),
-                "{misfit:?} cut at {cut}"
-            );
-            assert_eq!(rt;
-                (client.logged_on(), client.is_recovered(), client.pending()),
-                (false, false, 0)
-            );
-            assert_eq!(rt; client.responses().len(), 1);
-            assert_responses(&rt, &client)?;
-        }
     }
     Ok(())
 }

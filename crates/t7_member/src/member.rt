@@ -2,7 +2,7 @@
 
 ghost use Rattle.std.specs.Prelude.{◌≡◌, ℕ, ◌+◌, ◌<◌, ◌≤◌, max, List, Option, MatchOption};
 ghost use Rattle.std.specs.Prelude.{MatchResult, IsTrue, ◌↔◌, OnOk, OnErr, IfSome, IfNone, None};
-ghost use Rattle.std.specs.Prelude.{Some, [], ◌∷◌, ◌++◌, IfOk, false, ◌||◌, Bool, length};
+ghost use Rattle.std.specs.Prelude.{Some, [], ◌∷◌, ◌++◌, IfOk, false, ◌||◌, Bool, get_or, length};
 ghost use Rattle.std.specs.List.{All};
 ghost use Rattle.t7_base.specs.Listing.{IsListing, Listing};
 ghost use Rattle.t7_base.specs.declared.public.Resting.{Resting};
@@ -20,7 +20,7 @@ ghost use Rattle.t7_feed.specs.Cycles.{Section, orders_of};
 ghost use Rattle.t7_feed.specs.Fitting.{staged, stepped};
 ghost use Rattle.t7_feed.specs.Sending.{AreActs};
 ghost use Rattle.t7_feed.specs.Whole.{IsBelow};
-ghost use Rattle.t7_snapshot.specs.Store.{Store, reading, seen, Takes};
+ghost use Rattle.t7_snapshot.specs.Store.{Store, free, reading, seen, Takes};
 ghost use Rattle.t7_snapshot.specs.Taking.{IsCycle};
 ghost use Rattle.t7_member.specs.Keeping.{Image, Keeps};
 ghost use Rattle.t7_member.specs.declared.member.Delivered.TheVariants as delivered;
@@ -408,12 +408,16 @@ impl<'t> Member<'t> {
         self.gap.tally(feed)
     }
 
-    /// At most as many messages are kept as the window has numbers, and at most 20,000 orders.
+    /// At most as many messages and snapshot datagrams are kept as the product's two windows have numbers, each datagram of at most 1,472
+    /// bytes, and at most 20,000 orders.
     pub fn is_within_limits(&self)
         ensures kept { length self.now.kept ≤ self.now.terms.listing.window }
+        ensures packets { length self.now.ring ≤ self.now.terms.listing.packets }
+        ensures small { (place : ℕ) → 0 < (get_or self.now.ring place free).0 → length (get_or self.now.ring place free).1 ≤ 1472 }
         ensures list { length self.now.list ≤ 20_000 }
     {
         self.gap.is_within_window();
+        self.assembler.is_within_window();
         let _orders = self.book.len();
     }
 }

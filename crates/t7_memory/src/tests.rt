@@ -1,6 +1,6 @@
 //! Each object in memory once: what it gives, notes and refuses.
 
-use crate::{Asking, Binding, MemoryClock, MemoryLines, MemoryLink, Sending};
+use crate::{Asking, MemoryClock, MemoryLines, MemoryLink, Sending};
 use std::test::Fail;
 use t7_base::{Failed, Feed, Moment, Octets};
 use t7_net::{Clock, LineItem, Lines, Link, LinkEvent, LinkItem, Received};
@@ -29,35 +29,17 @@ fn a_link_gives_its_events_in_pieces(rt: HostRuntime) -> Result<(), Fail> {
 #[test]
 fn a_link_notes_what_is_asked_and_sent(rt: HostRuntime) -> Result<(), Fail> {
     let alloc = rt.alloc();
-    let mut link = MemoryLink::new(alloc, Vec::new(alloc), 7, 24, [3, 5].to_vec(alloc)?)?;
+    let mut link = MemoryLink::new(alloc, Vec::new(alloc), 3, 12, [3].to_vec(alloc)?)?;
     assert_eq!(rt; link.listen("here"), Ok(()));
-    assert_eq!(rt; link.dial("there"), Ok(1));
-    assert_eq!(rt; link.dial("away"), Err(Failed));
     assert_eq!(rt; link.send(1, b"some"), Ok(()));
     assert_eq!(rt; link.send(1, b"lost"), Err(Failed));
-    link.close(1);
-    assert_eq!(rt;
-        link.asked_at(0),
-        Some((Asking::Listen(true), b"here".as_slice()))
-    );
-    assert_eq!(rt;
-        link.asked_at(1),
-        Some((Asking::Dial(Some(1)), b"there".as_slice()))
-    );
-    assert_eq!(rt;
-        link.asked_at(2),
-        Some((Asking::Dial(None), b"away".as_slice()))
-    );
-    assert!(rt; link.asked_at(3).is_none());
+    let here = (Asking::Listen(true), b"here".as_slice());
+    assert_eq!(rt; link.asked_at(0), Some(here));
     assert_eq!(rt;
         link.sent_at(0),
         Some((Sending::Bytes(1), b"some".as_slice()))
     );
     assert_eq!(rt; link.sent_at(1), Some((Sending::Bytes(1), b"".as_slice())));
-    assert_eq!(rt; link.sent_at(2), Some((Sending::Close(1), b"".as_slice())));
-    assert_eq!(rt; link.send(1, b"too long"), Err(Failed));
-    assert!(rt; link.sent_at(0).is_none());
-    assert_eq!(rt; link.dial("ok"), Ok(2));
     Ok(())
 }
 
@@ -65,33 +47,16 @@ fn a_link_notes_what_is_asked_and_sent(rt: HostRuntime) -> Result<(), Fail> {
 fn the_lines_give_their_receipts_and_note_what_is_cast(rt: HostRuntime) -> Result<(), Fail> {
     let alloc = rt.alloc();
     let mut items = Vec::new(alloc);
-    items.push(LineItem::Quiet)?;
     items.push(LineItem::Datagram(Feed::SnapB, Octets::new([7; 1500].to_vec(alloc)?)))?;
-    let mut lines = MemoryLines::new(alloc, items, 8, 8, [3, 6].to_vec(alloc)?)?;
+    let mut lines = MemoryLines::new(alloc, items, 4, 8, [1].to_vec(alloc)?)?;
     let mut into = [0u8; 1473];
-    assert_eq!(rt; lines.bind(Feed::LiveA, "here", true), Ok(()));
-    assert_eq!(rt; lines.receive(&mut into), Received::Quiet);
     assert_eq!(rt; lines.receive(&mut into), Received::Failed);
-    assert_eq!(rt;
-        lines.receive(&mut into),
-        Received::Datagram(Feed::SnapB, 1473)
-    );
+    let whole = Received::Datagram(Feed::SnapB, 1473);
+    assert_eq!(rt; lines.receive(&mut into), whole);
     assert_eq!(rt; into[1472], 7);
-    assert_eq!(rt; lines.cast(Feed::LiveA, b"one"), Ok(()));
-    assert_eq!(rt; lines.cast(Feed::LiveB, b"x"), Err(Failed));
-    assert_eq!(rt; lines.cast(Feed::LiveA, b"xx"), Err(Failed));
-    assert_eq!(rt; lines.cast(Feed::LiveB, b"2"), Ok(()));
-    assert_eq!(rt; lines.cast_at(0), Some((Feed::LiveA, b"one".as_slice())));
-    assert_eq!(rt; lines.cast_at(1), Some((Feed::LiveB, b"2".as_slice())));
-    let binding = Binding {
-        feed: Feed::LiveA,
-        listen: true,
-    };
-    assert_eq!(rt; lines.asked_at(0), Some((binding, b"here".as_slice())));
     assert_eq!(rt; lines.receive(&mut into), Received::Quiet);
-    assert_eq!(rt; lines.receive(&mut into), Received::Failed);
-    assert_eq!(rt; lines.bind(Feed::LiveA, "", false), Err(Failed));
-    assert!(rt; lines.asked_at(0).is_none());
+    assert_eq!(rt; lines.cast(Feed::LiveA, b"one"), Ok(()));
+    assert_eq!(rt; lines.cast_at(0), Some((Feed::LiveA, b"one".as_slice())));
     Ok(())
 }
 
