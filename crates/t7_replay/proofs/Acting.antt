@@ -8,6 +8,7 @@ use Rattle.t7_outcome.specs.declared.ending.Stop.TheVariants.{Memory, Script, Wr
 use Rattle.t7_outcome.specs.Outcome.{Outcome, Wrote}
 use Rattle.t7_outcome.specs.Steps.{Goes, Step, Stopped, StoppedAt, Stops, WentOn}
 use Rattle.t7_outcome.proofs.Lines.{fronts_all, fronts_none}
+use Rattle.t7_replay.specs.Following.{Follows}
 use Rattle.t7_replay.specs.Kits.{Does, Kit, OfLine, Refuses, Stands}
 use Rattle.t7_replay.specs.Reports.{IsReported, Moment}
 use Rattle.t7_replay.specs.Steps.{OfPlay}
@@ -22,8 +23,8 @@ silent (Goes state parts) WriteFault stopped of = absurd of
 silent (Goes state parts) stop stopped of = absurd stopped
 
 pub refused_at : (p : Option (List ℕ)) (step : Act) (kit : Kit) (stop : Stop) → Refuses step kit stop
-    → (terms : Terms) (world : World) → Stands terms world kit → Grew p p (StoppedAt IsReported (step terms world) stop)
-refused_at p step kit stop refuses terms world stands =
+    → (terms : Terms) (world : World) → Stands terms world kit → Follows terms world → Grew p p (StoppedAt IsReported (step terms world) stop)
+refused_at p step kit stop refuses terms world stands follows =
     grew_nothing p (StoppedAt IsReported (step terms world) stop) (silent (step terms world) stop (refuses.stopped terms world stands) refuses.of_line)
 
 pub of_play : (stop : Stop) → OfLine stop → OfPlay stop
@@ -45,9 +46,9 @@ cut_off (Stops own) text added wrote cut = absurd wrote
 
 pub cut_at : {T : Type 0} (p q : Option (List ℕ)) (step : Act) (kit new : Kit) (text : List ℕ) (r : Result T Stop) → OnErr r (Grew p q (λ added. Begins added text))
     → IfErr r (λ stop. stop ≡ WriteFault) → Does step kit new text
-    → IfErr r (λ stop. (terms : Terms) (world : World) → Stands terms world kit → Grew p q (StoppedAt IsReported (step terms world) stop))
+    → IfErr r (λ stop. (terms : Terms) (world : World) → Stands terms world kit → Follows terms world → Grew p q (StoppedAt IsReported (step terms world) stop))
 cut_at p q step kit new text (Ok x) cut only done = tt
-cut_at p q step kit new text (Err stop) cut only done = λ terms world stands.
+cut_at p q step kit new text (Err stop) cut only done = λ terms world stands follows.
     subst (λ (s : Stop). Grew p q (StoppedAt IsReported (step terms world) s)) (sym only)
     (grew_as p q (λ added. Begins added text) (StoppedAt IsReported (step terms world) WriteFault) cut
-    (λ added front. cut_off (step terms world) text added (done.wrote terms world stands) front))
+    (λ added front. cut_off (step terms world) text added (done.wrote terms world stands follows) front))

@@ -7,7 +7,8 @@ use Rattle.t7_entry.specs.Days.{Day, new_day}
 use Rattle.t7_entry.specs.State.{start}
 use Rattle.t7_acts.specs.InStep.{setting_of}
 use Rattle.t7_acts.specs.Left.{left_of}
-use Rattle.t7_feed.specs.Arrivals.{Terms}
+use Rattle.t7_layout.specs.Lookups.{IsTable}
+use Rattle.t7_feed.specs.Arrivals.{AreTerms, Terms}
 use Rattle.t7_feed.specs.Sending.{sent_on}
 use Rattle.t7_member.specs.Keeping.{Keeps}
 use Rattle.t7_replay.specs.Kits.{Kit, Stands, terms_of}
@@ -17,8 +18,8 @@ use Rattle.t7_replay.proofs.Entering.{same_day}
 -- the program stands in the world before the first line
 pub stands_new : (terms : Terms) (kit : Kit) → ((terms : Terms) (channel : Channel) → sent_on terms [] channel ≡ []) → ((terms : Terms) → left_of terms [] ≡ [])
     → kit.day ≡ new_day (setting_of terms) → kit.lives ≡ [] → kit.snaps ≡ [] → kit.caller ≡ None → kit.moment ≡ 0 → kit.raw ≡ false → kit.row ≡ 0 → kit.layouts ≡ terms.layouts → kit.listing ≡ terms.listing
-    → kit.image.terms ≡ terms → ((acts : List Act) → Keeps kit.image.terms acts kit.image []) → Stands terms new_world kit
-stands_new terms kit sent left day lives snaps caller moment raw row layouts listing same keeps = record {
+    → kit.image.terms ≡ terms → ((acts : List Act) → Keeps kit.image.terms acts kit.image []) → AreTerms (record { layouts = kit.day.setting.layouts; listing = kit.day.setting.listing }) → Stands terms new_world kit
+stands_new terms kit sent left day lives snaps caller moment raw row layouts listing same keeps are = record {
   day = day ∙ same_day (setting_of terms) start _ _ _ _ _ _ _ _ (sym (ap length (sent terms Live))) refl (sym (left terms)) refl;
   lives = lives ∙ sym (sent terms Live);
   snaps = snaps ∙ sym (sent terms Snap);
@@ -35,7 +36,11 @@ stands_new terms kit sent left day lives snaps caller moment raw row layouts lis
   few_made = omega arith;
   few_lines = omega arith;
   genuine = λ not. tt;
-  keeps = λ acts are. subst (λ (t : Terms). Keeps t acts kit.image []) same (keeps acts);
+  keeps = λ acts those. subst (λ (t : Terms). Keeps t acts kit.image []) same (keeps acts);
+  table = subst (λ (d : Day). IsTable d.setting.layouts) day are.table;
+  said = tt;
+  sound = tt;
+  paired = λ conn none. refl;
 }
 
 -- the terms of a program that stands in a world

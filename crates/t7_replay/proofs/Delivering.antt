@@ -22,7 +22,7 @@ use Rattle.t7_outcome.proofs.Lines.{spelled_shown}
 use Rattle.t7_script.specs.declared.event.Event.TheVariants as kind
 use Rattle.t7_replay.specs.Kits.{Does, Gives, Kit, Stands, on_channel}
 use Rattle.t7_replay.specs.Lines.{bad_lines, report_lines}
-use Rattle.t7_replay.specs.Reports.{IsReported}
+use Rattle.t7_replay.specs.Reports.{AtShow, IsReported, IsShown}
 use Rattle.t7_replay.specs.Steps.{delivering, done_by, moment_of}
 use Rattle.t7_replay.specs.World.{World}
 use Rattle.t7_replay.proofs.Doing.{does_says}
@@ -63,6 +63,10 @@ stands_given terms world kit new image forged feed bytes text stands is gives ge
   genuine = genuine;
   keeps = λ acts are. subst (λ (i : Image). Keeps terms acts i (arrivals terms (record { feed = feed; bytes = bytes } ∷ world.came)))
       (sym (ap (λ (k : Kit). k.image) is)) (gives.keeps terms acts world.came are (stands.keeps acts are));
+  table = stands.table;
+  said = stands.said;
+  sound = stands.sound;
+  paired = stands.paired;
 }
 
 lines_given : (terms : Terms) (world : World) (kit : Kit) (image : Image) (feed : Feed) (bytes text : List ℕ) → Stands terms world kit → Gives feed bytes kit.image image text
@@ -141,7 +145,7 @@ pub record IsSound (day : Day) : Type 0 where
 
 is_reported : Shown → (terms : Terms) (world : World) (kit : Kit) (state : Status) (orders : List Resting) → Stands terms world kit → IsSound kit.day
     → state ≡ status_of kit.image.base kit.image.refused kit.image.known → orders ≡ shown_of kit.image.base kit.image.list
-    → IsReported (moment_of terms world) (report_lines state orders)
+    → IsShown (moment_of terms world) (report_lines state orders)
 is_reported shown terms world kit state orders stands sound is list =
     let acts = are_acts terms world kit stands sound.accepted sound.ranged in
     let are : AreTerms terms = subst (λ (d : Day). AreTerms (record { layouts = d.setting.layouts; listing = d.setting.listing })) stands.day sound.terms in record {
@@ -160,9 +164,9 @@ pub show_done : Shown → (kit : Kit) (day : Day) (image : Image) (state : Statu
     → Does (λ terms world. done_by terms world kind.Show) kit kit text
 show_done shown kit day image state orders text same_day same_image sound is list said = record {
   went = λ terms world stands. stands;
-  wrote = λ terms world stands. (
+  wrote = λ terms world stands follows. (
     report_lines state orders,
-    spelled_shown IsReported (moment_of terms world) (report_lines state orders)
+    spelled_shown IsReported (AtShow (moment_of terms world)) (report_lines state orders)
         (is_reported shown terms world kit state orders stands (subst IsSound same_day sound)
         (is ∙ ap (λ (i : Image). status_of i.base i.refused i.known) same_image) (list ∙ ap (λ (i : Image). shown_of i.base i.list) same_image)),
     said,

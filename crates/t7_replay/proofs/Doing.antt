@@ -7,7 +7,7 @@ use Rattle.t7_outcome.specs.Outcome.{says, text_of}
 use Rattle.t7_outcome.specs.Steps.{Goes, GoesTo, Step, Stopped, Stops, WentOn}
 use Rattle.t7_outcome.proofs.Lines.{spelled_says}
 use Rattle.t7_feed.specs.Arrivals.{Terms}
-use Rattle.t7_replay.specs.Kits.{Does, Kit, OfLine, Refuses, Stands}
+use Rattle.t7_replay.specs.Kits.{Does, Enters, Kit, OfLine, Refuses, Stands}
 use Rattle.t7_replay.specs.Reports.{IsReported, Moment}
 use Rattle.t7_replay.specs.World.{World}
 
@@ -20,7 +20,14 @@ pub does_as : (step other : Act) (old new : Kit) (text : List ℕ) → ((terms :
     → Does step old new text → Does other old new text
 does_as step other old new text same does = record {
   went = λ terms world stands. subst (λ (s : Step World Moment). GoesTo s (λ after. Stands terms after new)) (same terms world stands) (does.went terms world stands);
-  wrote = λ terms world stands. subst (λ (s : Step World Moment). WentOn IsReported s text) (same terms world stands) (does.wrote terms world stands);
+  wrote = λ terms world stands follows. subst (λ (s : Step World Moment). WentOn IsReported s text) (same terms world stands) (does.wrote terms world stands follows);
+}
+
+pub enters_as : (step other : Act) (old new : Kit) (text : List ℕ) → ((terms : Terms) (world : World) → Stands terms world old → step terms world ≡ other terms world)
+    → Enters step old new text → Does other old new text
+enters_as step other old new text same does = record {
+  went = λ terms world stands. subst (λ (s : Step World Moment). GoesTo s (λ after. Stands terms after new)) (same terms world stands) (does.went terms world stands);
+  wrote = λ terms world stands follows. subst (λ (s : Step World Moment). WentOn IsReported s text) (same terms world stands) (does.wrote terms world stands);
 }
 
 -- a step that leads to a world and prints lines
@@ -31,7 +38,7 @@ pub does_says : (step : Act) (after : Terms → World → World) (lines : Terms 
     → Does step old new text
 does_says step after lines old new text is stands said = record {
   went = λ terms world in_world. subst (λ (s : Step World Moment). GoesTo s (λ now. Stands terms now new)) (sym (is terms world in_world)) (stands terms world in_world);
-  wrote = λ terms world in_world. subst (λ (s : Step World Moment). WentOn IsReported s text) (sym (is terms world in_world))
+  wrote = λ terms world in_world follows. subst (λ (s : Step World Moment). WentOn IsReported s text) (sym (is terms world in_world))
       (lines terms world, spelled_says IsReported (lines terms world), said terms world in_world);
 }
 

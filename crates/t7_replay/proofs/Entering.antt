@@ -8,7 +8,8 @@ use Rattle.t7_book.specs.Acts.{Accepts, Act}
 use Rattle.t7_eobi.specs.declared.walks.Snap.{Snap as Item}
 use Rattle.t7_entry.specs.Days.{Day, day_after, due}
 use Rattle.t7_entry.specs.Events.{Event, happens}
-use Rattle.t7_entry.specs.State.{Setting, State}
+use Rattle.t7_entry.specs.State.{Doing, Setting, State}
+use Rattle.t7_exchange.specs.Paired.{ArePaired}
 use Rattle.t7_acts.specs.Added.{added_by}
 use Rattle.t7_acts.specs.InStep.{IsInStep, setting_of}
 use Rattle.t7_acts.specs.Left.{left_of}
@@ -19,14 +20,14 @@ use Rattle.t7_packets.specs.Packing.{datagram_bytes}
 use Rattle.t7_outcome.specs.declared.ending.Stop.{Stop}
 use Rattle.t7_outcome.specs.Outcome.{text_of}
 use Rattle.t7_outcome.proofs.Lines.{spelled_says}
-use Rattle.t7_replay.specs.Calling.{told_all}
-use Rattle.t7_replay.specs.Handing.{due_bytes, handed_out}
-use Rattle.t7_replay.specs.Kits.{Does, Kit, Stands, day_at, handed, waiting_lines}
+use Rattle.t7_replay.specs.Calling.{said_to, told_all}
+use Rattle.t7_replay.specs.Handing.{AreSaidReplies, due_bytes, handed_out}
+use Rattle.t7_replay.specs.Kits.{Enters, Kit, Stands, day_at, handed, waiting_lines}
 use Rattle.t7_replay.specs.Lines.{datagram_lines, replies_lines, sent_lines, under}
 use Rattle.t7_replay.specs.Reports.{IsReported}
 use Rattle.t7_replay.specs.Steps.{after_entry, entered, entry_lines}
 use Rattle.t7_replay.specs.World.{World}
-use Rattle.t7_replay.proofs.Telling.{told_made}
+use Rattle.t7_replay.proofs.Telling.{said_behind, said_caller, told_made, told_sound}
 
 -- how what is sent grows as commands are accepted
 pub record Grows : Type 0 where
@@ -60,13 +61,18 @@ sent_behind word before more now is =
     ap (λ (l : List (List ℕ)). datagram_lines word (length before) (drop (length before) l)) is ∙ ap (datagram_lines word (length before)) (drop-append_seam before more)
 
 module _ (laws : Grows) (terms : Terms) (world : World) (before mid new : Kit) (event : Event) (stands : Stands terms world before)
-    (is : mid ≡ record before { day = day_after before.day event }) (next : new ≡ handed mid) where
+    (is : mid ≡ record before { day = day_after before.day event }) (next : new ≡ handed mid)
+    (spoken : AreSaidReplies mid.day.setting.layouts mid.day.waiting) (whole : ArePaired mid.day.state) where
   -- the day after the event
   abbrev day : Day
   day = day_after (day_at terms world) event
 
   abbrev after : World
   after = after_entry terms world (happens (setting_of terms) world.state event)
+
+  -- what is done
+  abbrev doings : List Doing
+  doings = (happens (setting_of terms) world.state event).doings
 
   -- the commands that it accepts
   abbrev cs : List Command
@@ -130,6 +136,11 @@ module _ (laws : Grows) (terms : Terms) (world : World) (before mid new : Kit) (
     few_lines = stands.few_lines;
     genuine = λ not. laws.genuine terms world.acts (map Accepts cs) world.came (stands.genuine not);
     keeps = λ acts are. subst (λ (i : Image). Keeps terms acts i (arrivals terms world.came)) (sym new_image) (stands.keeps acts are);
+    table = stands.table;
+    said = said_behind terms.layouts world.said (said_to world.caller doings) stands.said
+        (said_caller terms.layouts world.caller doings (subst (λ (d : Day). AreSaidReplies d.setting.layouts d.waiting) mid_day spoken));
+    sound = told_sound terms.layouts day.waiting world.caller stands.sound;
+    paired = subst (λ (d : Day). ArePaired d.state) mid_day whole;
   }
 
   pub lines_after : waiting_lines mid ≡ entry_lines terms world (happens (setting_of terms) world.state event)
@@ -144,18 +155,19 @@ module _ (laws : Grows) (terms : Terms) (world : World) (before mid new : Kit) (
 
 -- so the event is done
 pub does_entered : Grows → (before mid new : Kit) (event : Event) (text : List ℕ) → mid ≡ record before { day = day_after before.day event } → new ≡ handed mid
-    → text ≡ text_of (waiting_lines mid) → Does (λ terms world. entered terms world event) before new text
-does_entered laws before mid new event text is next said = record {
-  went = λ terms world stands. stands_after laws terms world before mid new event stands is next;
+    → text ≡ text_of (waiting_lines mid) → AreSaidReplies mid.day.setting.layouts mid.day.waiting → ArePaired mid.day.state → Enters (λ terms world. entered terms world event) before new text
+does_entered laws before mid new event text is next said spoken whole = record {
+  went = λ terms world stands. stands_after laws terms world before mid new event stands is next spoken whole;
   wrote = λ terms world stands. (
     entry_lines terms world (happens (setting_of terms) world.state event),
     spelled_says IsReported (entry_lines terms world (happens (setting_of terms) world.state event)),
-    said ∙ ap text_of (lines_after laws terms world before mid new event stands is next),
+    said ∙ ap text_of (lines_after laws terms world before mid new event stands is next spoken whole),
   );
 }
 
 -- The same of a call's answer: the items of its text are what was printed.
 pub entered_all : {T : Type 0} (items : T → List ℕ) → Grows → (mid new : Kit) (r : Result T Stop) → OnOk r (new ≡ handed mid) → IfOk r (λ text. items text ≡ text_of (waiting_lines mid))
-    → IfOk r (λ text. (before : Kit) (event : Event) → mid ≡ record before { day = day_after before.day event } → Does (λ terms world. entered terms world event) before new (items text))
-entered_all items laws mid new (Ok text) next said = λ before event is. does_entered laws before mid new event (items text) is next said
-entered_all items laws mid new (Err stop) next said = tt
+    → OnOk r (AreSaidReplies mid.day.setting.layouts mid.day.waiting) → ArePaired mid.day.state
+    → IfOk r (λ text. (before : Kit) (event : Event) → mid ≡ record before { day = day_after before.day event } → Enters (λ terms world. entered terms world event) before new (items text))
+entered_all items laws mid new (Ok text) next said spoken whole = λ before event is. does_entered laws before mid new event (items text) is next said spoken whole
+entered_all items laws mid new (Err stop) next said spoken whole = tt

@@ -1,6 +1,7 @@
 -- What is read of a line is of its form.
 use Rattle.std.proofs.Common.{◌≡◌, ◌≤◌, ◌<◌, ℕ, ℤ, pos, ◌≤ℤ◌, Bool, true, false, List, [], ◌∷◌, Option, Some, None, Contains, Result, Ok, Err, IfSome, codes, nat_le, option_map}
-use Rattle.std.proofs.Common.{refl, subst, arith, if◌then◌else◌}
+use Rattle.std.proofs.Common.{refl, subst, arith, if◌then◌else◌, take, drop}
+use Rattle.std.specs.Prelude.{neg_ℤ}
 use Rattle.std.proofs.lemmas.Int.{ints}
 use Rattle.std.specs.Option.{option_and_then, option_or}
 use Rattle.std.specs.Str.{bytes_eq}
@@ -15,11 +16,15 @@ use Rattle.t7_script.specs.Cells.{security, session, side, two_of}
 use Rattle.t7_script.specs.Events.{Setting, alone, both, client_word, event_by, event_in, event_of, member_word, or_number, ordered, with_cells, word_of}
 use Rattle.t7_replay.specs.Kits.{IsOfForm}
 
+-- a price's number
+abbrev pub InPrice : ℤ → Type 0
+InPrice z = (neg_ℤ (pos 100_000_000_000_000_000) ≤ℤ z) × (z ≤ℤ pos 100_000_000_000_000_000)
+
 -- what is read is of its form, but for a security that is cleared
-abbrev IsFormed : Event → Type 0
+abbrev pub IsFormed : Event → Type 0
 IsFormed (kind.Dial conn session) = (1 ≤ session) × (session ≤ 4_000_000_000)
 IsFormed (kind.Order security side price quantity client) =
-    (pos 1 ≤ℤ security) × (security ≤ℤ pos 1_000_000_000_000_000_000) × (client < 18_446_744_073_709_551_615)
+    (pos 1 ≤ℤ security) × (security ≤ℤ pos 1_000_000_000_000_000_000) × (client < 18_446_744_073_709_551_615) × InPrice price × (quantity ≤ 1_000_000_000_000_000)
 IsFormed event = Unit {0}
 
 abbrev ReadsFormed : Result Event LineRefusal → Type 0
@@ -90,14 +95,25 @@ as_client : (o : Option ℕ) → IfSome o (λ n. (0 ≤ n) × (n ≤ 18_446_744_
 as_client None has = tt
 as_client (Some n) has = omega arith
 
-from_order : (a : Option ℤ) (b : Option Side) (c : Option ℤ) (d e : Option ℕ) → IfSome a InRange → IfSome e (λ n. n < 18_446_744_073_709_551_615)
-    → IfSome (ordered a b c d e) IsFormed
-from_order None b c d e in_range few = tt
-from_order (Some x) None c d e in_range few = tt
-from_order (Some x) (Some y) None d e in_range few = tt
-from_order (Some x) (Some y) (Some z) None e in_range few = tt
-from_order (Some x) (Some y) (Some z) (Some u) None in_range few = tt
-from_order (Some x) (Some y) (Some z) (Some u) (Some v) in_range few = (in_range.0, in_range.1, few)
+as_price : (b : Bool) (x y : Option ℕ) → IfSome x (λ n. (1 ≤ n) × (n ≤ 100_000_000_000_000_000)) → IfSome y (λ n. (0 ≤ n) × (n ≤ 100_000_000_000_000_000))
+    → IfSome (let o : Option ℤ = if b then option_map (λ n. neg_ℤ (pos n)) x else option_map (λ n. pos n) y in o) InPrice
+as_price true None y low high = tt
+as_price true (Some n) y low high = (omega (arith, ints), omega (arith, ints))
+as_price false x None low high = tt
+as_price false x (Some n) low high = (omega (arith, ints), omega (arith, ints))
+
+as_quantity : (o : Option ℕ) → IfSome o (λ n. (1 ≤ n) × (n ≤ 1_000_000_000_000_000)) → IfSome o (λ n. n ≤ 1_000_000_000_000_000)
+as_quantity None has = tt
+as_quantity (Some n) has = has.1
+
+from_order : (a : Option ℤ) (b : Option Side) (c : Option ℤ) (d e : Option ℕ) → IfSome a InRange → IfSome c InPrice → IfSome d (λ n. n ≤ 1_000_000_000_000_000)
+    → IfSome e (λ n. n < 18_446_744_073_709_551_615) → IfSome (ordered a b c d e) IsFormed
+from_order None b c d e in_range in_price many few = tt
+from_order (Some x) None c d e in_range in_price many few = tt
+from_order (Some x) (Some y) None d e in_range in_price many few = tt
+from_order (Some x) (Some y) (Some z) None e in_range in_price many few = tt
+from_order (Some x) (Some y) (Some z) (Some u) None in_range in_price many few = tt
+from_order (Some x) (Some y) (Some z) (Some u) (Some v) in_range in_price many few = (in_range.0, in_range.1, few, in_price, many)
 
 from_alone : (event : Event) → IsFormed event → (cells : List (List ℕ)) → ReadsFormed (alone event cells)
 from_alone event formed [] = formed
@@ -126,6 +142,9 @@ module _ (setting : Setting) (first : List ℕ) (cells : List (List ℕ)) where
       from_order (security setting.listing.securities o.security) (side o.side) (price o.price) (quantity o.quantity) (client o.client)
       (kept_in InRange (λ n. pos n) _ (number_within 1 1_000_000_000_000_000_000 o.security)
       (as_signed (number_within 1 1_000_000_000_000_000_000 o.security) (within 1 1_000_000_000_000_000_000 o.security)))
+      (as_price (bytes_eq (take 1 o.price) (codes "-")) (number_within 1 100_000_000_000_000_000 (drop 1 o.price)) (number_within 0 100_000_000_000_000_000 o.price)
+      (within 1 100_000_000_000_000_000 (drop 1 o.price)) (within 0 100_000_000_000_000_000 o.price))
+      (as_quantity (quantity o.quantity) (within 1 1_000_000_000_000_000 o.quantity))
       (as_client (client o.client) (within 0 18_446_744_073_709_551_614 o.client))))
       (if_reads (λ w. event_by setting w cells) (bytes_eq first (codes "UP")) _ _ (from_cells (one_of cells) _ (λ c. from_map kind.Up (λ a. tt) (count c)))
       (if_reads (λ w. event_by setting w cells) (bytes_eq first (codes "DOWN")) _ _ (from_cells (one_of cells) _ (λ c. from_map kind.Down (λ a. tt) (count c)))
@@ -160,7 +179,7 @@ from_in : (setting : Setting) (cells : List (List ℕ)) → ReadsFormed (event_i
 from_in setting [] = tt
 from_in setting (first ∷ cells) = from_exchange setting first cells
 
-formed : (setting : Setting) (line : List ℕ) (event : Event) → event_of setting line ≡ Ok event → IsFormed event
+pub formed : (setting : Setting) (line : List ℕ) (event : Event) → event_of setting line ≡ Ok event → IsFormed event
 formed setting line event is = subst ReadsFormed is (from_in setting (cells_of line))
 
 -- the security of a CLEAR is a listed one
@@ -171,5 +190,5 @@ ClearsAreListed = (setting : Setting) (line : List ℕ) (security : ℤ) → eve
 pub read_form : ClearsAreListed → (setting : Setting) (line : List ℕ) (event : Event) → event_of setting line ≡ Ok event → IsOfForm setting.listing.securities event
 read_form law setting line (kind.Clear security) is = law setting line security is
 read_form law setting line (kind.Dial conn session) is = formed setting line (kind.Dial conn session) is
-read_form law setting line (kind.Order security side price quantity client) is = formed setting line (kind.Order security side price quantity client) is
+read_form law setting line (kind.Order security side price quantity client) is = let f = formed setting line (kind.Order security side price quantity client) is in (f.0, f.1, f.2)
 read_form law setting line event is = tt

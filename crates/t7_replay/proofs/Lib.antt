@@ -8,6 +8,7 @@ pub mod Forms
 pub mod Entering
 pub mod Lines
 pub mod Opening
+pub mod Following
 pub mod Played
 pub mod Reading
 pub mod ReplyFacts

@@ -10,12 +10,14 @@ use Rattle.t7_feed.specs.Arrivals.{Terms}
 use Rattle.t7_outcome.specs.declared.ending.Stop.{Stop}
 use Rattle.t7_outcome.specs.Steps.{GoesTo, Step, WentOn}
 use Rattle.t7_script.specs.declared.event.Event.TheVariants as kind
-use Rattle.t7_replay.specs.Calling.{Calling, any_on, cut_on, hangs_up, is_on, made_by}
-use Rattle.t7_replay.specs.Kits.{Does, Kit, Stands}
+use Rattle.t7_eti.specs.declared.response.Response.{Response}
+use Rattle.t7_dialog.specs.Saying.{AreSaid}
+use Rattle.t7_replay.specs.Calling.{Calling, IsSoundCaller, IsSoundCalling, any_on, cut_on, hangs_up, is_on, made_by}
+use Rattle.t7_replay.specs.Kits.{Does, Enters, Kit, Stands}
 use Rattle.t7_replay.specs.Reports.{IsReported, Moment}
 use Rattle.t7_replay.specs.Steps.{connection_fault, done_by, entered, on_open, opening}
 use Rattle.t7_replay.specs.World.{World}
-use Rattle.t7_replay.proofs.Doing.{Act, does_as}
+use Rattle.t7_replay.proofs.Doing.{Act, enters_as}
 
 -- the state of the exchange is that of the world
 pub state_of : (terms : Terms) (world : World) (kit : Kit) → Stands terms world kit → kit.day.state ≡ world.state
@@ -37,11 +39,11 @@ shut_key terms world kit conn stands shut =
 
 -- an event that was entered is done, where that is what the step says
 pub after_event : {T : Type 0} (items : T → List ℕ) (other : Act) (before mid new : Kit) (event : entry.Event) (r : Result T Stop)
-    → IfOk r (λ text. (b : Kit) (e : entry.Event) → mid ≡ record b { day = day_after b.day e } → Does (λ terms world. entered terms world e) b new (items text))
+    → IfOk r (λ text. (b : Kit) (e : entry.Event) → mid ≡ record b { day = day_after b.day e } → Enters (λ terms world. entered terms world e) b new (items text))
     → mid ≡ record before { day = day_after before.day event }
     → ((terms : Terms) (world : World) → Stands terms world before → entered terms world event ≡ other terms world)
     → IfOk r (λ text. Does other before new (items text))
-after_event items other before mid new event (Ok text) done is same = does_as (λ terms world. entered terms world event) other before new (items text) same (done before event is)
+after_event items other before mid new event (Ok text) done is same = enters_as (λ terms world. entered terms world event) other before new (items text) same (done before event is)
 after_event items other before mid new event (Err stop) done is same = tt
 
 pub opens_as : (kit : Kit) (conn : ℕ) → IsShut kit.day conn → (terms : Terms) (world : World) → Stands terms world kit
@@ -93,23 +95,27 @@ at_moment terms world kit moment stands = record {
   few_lines = stands.few_lines;
   genuine = stands.genuine;
   keeps = stands.keeps;
+  table = stands.table;
+  said = stands.said;
+  sound = stands.sound;
+  paired = stands.paired;
 }
 
 pub tick_done : {T : Type 0} (items : T → List ℕ) (before mid new : Kit) (moment : ℕ) (r : Result T Stop)
-    → IfOk r (λ text. (b : Kit) (e : entry.Event) → mid ≡ record b { day = day_after b.day e } → Does (λ terms world. entered terms world e) b new (items text))
+    → IfOk r (λ text. (b : Kit) (e : entry.Event) → mid ≡ record b { day = day_after b.day e } → Enters (λ terms world. entered terms world e) b new (items text))
     → mid ≡ record before { moment = moment; day = day_after before.day (entry.Tick moment) }
     → IfOk r (λ text. Does (λ terms world. done_by terms world (kind.Tick moment)) before new (items text))
 tick_done items before mid new moment (Err stop) done is = tt
 tick_done items before mid new moment (Ok text) done is =
     let ticked = done (record before { moment = moment }) (entry.Tick moment) is in record {
       went = λ terms world stands. ticked.went terms (record world { moment = moment }) (at_moment terms world before moment stands);
-      wrote = λ terms world stands. ticked.wrote terms (record world { moment = moment }) (at_moment terms world before moment stands);
+      wrote = λ terms world stands follows. ticked.wrote terms (record world { moment = moment }) (at_moment terms world before moment stands);
     }
 
 -- with another client
-pub at_caller : (terms : Terms) (world : World) (kit : Kit) (caller own : Option Calling) → own ≡ caller → made_by caller ≤ world.row → Stands terms world kit
-    → Stands terms (record world { caller = caller }) (record kit { caller = own })
-at_caller terms world kit caller own same few stands = record {
+pub at_caller : (terms : Terms) (world : World) (kit : Kit) (caller own : Option Calling) (now : List Response) → own ≡ caller → made_by caller ≤ world.row → IsSoundCaller caller
+    → AreSaid terms.layouts now → Stands terms world kit → Stands terms (record world { caller = caller; said = now }) (record kit { caller = own })
+at_caller terms world kit caller own now same few sound fine stands = record {
   day = stands.day;
   lives = stands.lives;
   snaps = stands.snaps;
@@ -127,26 +133,32 @@ at_caller terms world kit caller own same few stands = record {
   few_lines = stands.few_lines;
   genuine = stands.genuine;
   keeps = stands.keeps;
+  table = stands.table;
+  said = fine;
+  sound = sound;
+  paired = stands.paired;
 }
 
 -- an event that was entered with another client is done, where that is what the step says
-pub after_call : {T : Type 0} (items : T → List ℕ) (other : Act) (before mid new : Kit) (own : Option Calling) (caller : Terms → World → Option Calling) (event : entry.Event)
-    (r : Result T Stop)
-    → IfOk r (λ text. (b : Kit) (e : entry.Event) → mid ≡ record b { day = day_after b.day e } → Does (λ terms world. entered terms world e) b new (items text))
+pub after_call : {T : Type 0} (items : T → List ℕ) (other : Act) (before mid new : Kit) (own : Option Calling) (caller : Terms → World → Option Calling) (now : World → List Response)
+    (event : entry.Event) (r : Result T Stop)
+    → IfOk r (λ text. (b : Kit) (e : entry.Event) → mid ≡ record b { day = day_after b.day e } → Enters (λ terms world. entered terms world e) b new (items text))
     → mid ≡ record before { caller = own; day = day_after before.day event }
     → ((terms : Terms) (world : World) → Stands terms world before → own ≡ caller terms world)
     → ((terms : Terms) (world : World) → Stands terms world before → made_by (caller terms world) ≤ world.row)
-    → ((terms : Terms) (world : World) → Stands terms world before → entered terms (record world { caller = caller terms world }) event ≡ other terms world)
+    → ((terms : Terms) (world : World) → Stands terms world before → IsSoundCaller (caller terms world))
+    → ((terms : Terms) (world : World) → Stands terms world before → AreSaid terms.layouts (now world))
+    → ((terms : Terms) (world : World) → Stands terms world before → entered terms (record world { caller = caller terms world; said = now world }) event ≡ other terms world)
     → IfOk r (λ text. Does other before new (items text))
-after_call items other before mid new own caller event (Err stop) done is owns few same = tt
-after_call items other before mid new own caller event (Ok text) done is owns few same =
+after_call items other before mid new own caller now event (Err stop) done is owns few sound fine same = tt
+after_call items other before mid new own caller now event (Ok text) done is owns few sound fine same =
     let did = done (record before { caller = own }) event is in record {
       went = λ terms world stands. subst (λ (s : Step World Moment). GoesTo s (λ after. Stands terms after new)) (same terms world stands)
-          (did.went terms (record world { caller = caller terms world })
-          (at_caller terms world before (caller terms world) own (owns terms world stands) (few terms world stands) stands));
-      wrote = λ terms world stands. subst (λ (s : Step World Moment). WentOn IsReported s (items text)) (same terms world stands)
-          (did.wrote terms (record world { caller = caller terms world })
-          (at_caller terms world before (caller terms world) own (owns terms world stands) (few terms world stands) stands));
+          (did.went terms (record world { caller = caller terms world; said = now world })
+          (at_caller terms world before (caller terms world) own (now world) (owns terms world stands) (few terms world stands) (sound terms world stands) (fine terms world stands) stands));
+      wrote = λ terms world stands follows. subst (λ (s : Step World Moment). WentOn IsReported s (items text)) (same terms world stands)
+          (did.wrote terms (record world { caller = caller terms world; said = now world })
+          (at_caller terms world before (caller terms world) own (now world) (owns terms world stands) (few terms world stands) (sound terms world stands) (fine terms world stands) stands));
     }
 
 -- a client that is cut has made no order since
@@ -164,6 +176,27 @@ cut_few kit conn terms world stands = cut_made world.caller conn world.row stand
 
 pub cut_same : (kit : Kit) (conn : ℕ) (terms : Terms) (world : World) → Stands terms world kit → cut_on kit.caller conn ≡ cut_on world.caller conn
 cut_same kit conn terms world stands = ap (λ (c : Option Calling). cut_on c conn) stands.caller
+
+-- and is sound
+pub cut_sound_one : (calling : Calling) → IsSoundCalling calling → IsSoundCalling (hangs_up calling)
+cut_sound_one calling is =
+    let least = is.sound.least in
+    let most = is.sound.most in
+    record { sound = record { least = least; most = most; numbers = omega arith; made = omega arith; few = omega arith }; few = is.few }
+
+cut_sound_by : (calling : Calling) (b : Bool) → IsSoundCalling calling → IsSoundCaller (let o : Option Calling = if b then option_map hangs_up (Some calling) else Some calling in o)
+cut_sound_by calling true is = cut_sound_one calling is
+cut_sound_by calling false is = is
+
+cut_sound_of : (caller : Option Calling) (conn : ℕ) → IsSoundCaller caller → IsSoundCaller (cut_on caller conn)
+cut_sound_of None conn is = tt
+cut_sound_of (Some calling) conn is = cut_sound_by calling (is_on conn calling) is
+
+pub cut_sound : (kit : Kit) (conn : ℕ) (terms : Terms) (world : World) → Stands terms world kit → IsSoundCaller (cut_on world.caller conn)
+cut_sound kit conn terms world stands = cut_sound_of world.caller conn stands.sound
+
+pub said_same : (kit : Kit) (terms : Terms) (world : World) → Stands terms world kit → AreSaid terms.layouts world.said
+said_same kit terms world stands = stands.said
 
 pub cut_as : (kit : Kit) (conn : ℕ) → IsOpen kit.day conn → (terms : Terms) (world : World) → Stands terms world kit
     → entered terms (record world { caller = cut_on world.caller conn }) (entry.Closed conn) ≡ done_by terms world (kind.Cut conn)

@@ -12,7 +12,10 @@ use Rattle.t7_outcome.specs.Outcome.{Ends, Outcome, Wrote}
 use Rattle.t7_outcome.specs.Steps.{GoesTo, Step, Stopped, StoppedAt, WentOn}
 use Rattle.t7_outcome.proofs.Lines.{SoFar, nothing_yet}
 use Rattle.t7_outcome.proofs.Stepping.{grew_all, grew_on, grew_stopped, stopped_end, went_end, went_to}
-use Rattle.t7_replay.specs.Calling.{made_by}
+use Rattle.t7_dialog.specs.Saying.{AreSaid}
+use Rattle.t7_replay.specs.Calling.{IsSoundCaller, made_by}
+use Rattle.t7_replay.specs.Following.{Follows}
+use Rattle.t7_replay.proofs.Following.{Laws, follow_step, goes_on}
 use Rattle.t7_replay.specs.Kits.{IsReady, Kit, Stands}
 use Rattle.t7_replay.specs.Reports.{IsReported, Moment}
 use Rattle.t7_replay.specs.Steps.{played, step_at}
@@ -22,6 +25,7 @@ use Rattle.t7_replay.specs.World.{World, new_world}
 pub record Playing (terms : Terms) (kit : Kit) (lines : List (List ℕ)) (whole : Outcome Moment) (before now : Option (List ℕ)) : Type 0 where
   pub world : World
   pub stands : Stands terms world kit
+  pub follows : Follows terms world
   pub end : (played terms world lines).end ≡ whole.end
   pub written : Grew before now (SoFar IsReported (played terms world lines) whole)
 
@@ -45,17 +49,18 @@ pub playing_first : (terms : Terms) (kit : Kit) (lines : List (List ℕ)) (befor
 playing_first terms kit lines before stands = record {
   world = new_world;
   stands = stands;
+  follows = tt;
   end = refl;
   written = grew_nothing before (SoFar IsReported (played terms new_world lines) (played terms new_world lines)) (nothing_yet IsReported (played terms new_world lines));
 }
 
 -- the next line was done
-pub playing_next : (terms : Terms) (kit new : Kit) (all : List (List ℕ)) (line : List ℕ) (lines : List (List ℕ)) (whole : Outcome Moment) (before now later : Option (List ℕ))
+pub playing_next : Laws → (terms : Terms) (kit new : Kit) (all : List (List ℕ)) (line : List ℕ) (lines : List (List ℕ)) (whole : Outcome Moment) (before now later : Option (List ℕ))
     → all ≡ line ∷ lines → Playing terms kit all whole before now
     → ((terms : Terms) (world : World) → Stands terms world kit → GoesTo (step_at terms world line) (λ after. Stands terms after new))
-    → ((terms : Terms) (world : World) → Stands terms world kit → Grew now later (WentOn IsReported (step_at terms world line)))
+    → ((terms : Terms) (world : World) → Stands terms world kit → Follows terms world → Grew now later (WentOn IsReported (step_at terms world line)))
     → Playing terms new lines whole before later
-playing_next terms kit new all line lines whole before now later is playing went wrote =
+playing_next laws terms kit new all line lines whole before now later is playing went wrote =
     let world = playing.world in
     let step : Step World Moment = step_at terms world line in
     let next : World → Outcome Moment = λ (after : World). played terms after lines in
@@ -63,8 +68,10 @@ playing_next terms kit new all line lines whole before now later is playing went
     let whole_is = ap (played terms world) is in record {
       world = led.0;
       stands = led.2;
+      follows = goes_on (step_at terms world line) (λ (after : World). AreSaid terms.layouts after.said → IsSoundCaller after.caller → Follows terms after) led.0 led.1
+          (follow_step laws terms world line playing.stands.table playing.stands.paired playing.follows) led.2.said led.2.sound;
       end = sym (went_end IsReported step next led.0 led.1) ∙ sym (ap (λ (o : Outcome Moment). o.end) whole_is) ∙ playing.end;
-      written = grew_on IsReported before now later (played terms world all) step next led.0 whole whole_is led.1 playing.written (wrote terms world playing.stands);
+      written = grew_on IsReported before now later (played terms world all) step next led.0 whole whole_is led.1 playing.written (wrote terms world playing.stands playing.follows);
     }
 
 -- the next line stopped the run
@@ -80,12 +87,12 @@ playing_stopped_end terms kit all line lines whole before now stop is playing st
 pub playing_stopped : (terms : Terms) (kit : Kit) (all : List (List ℕ)) (line : List ℕ) (lines : List (List ℕ)) (whole : Outcome Moment) (before now later : Option (List ℕ)) (stop : Stop)
     → all ≡ line ∷ lines → Playing terms kit all whole before now
     → ((terms : Terms) (world : World) → Stands terms world kit → Stopped (step_at terms world line) stop)
-    → ((terms : Terms) (world : World) → Stands terms world kit → Grew now later (StoppedAt IsReported (step_at terms world line) stop))
+    → ((terms : Terms) (world : World) → Stands terms world kit → Follows terms world → Grew now later (StoppedAt IsReported (step_at terms world line) stop))
     → Grew before later (Wrote IsReported whole (Err stop))
 playing_stopped terms kit all line lines whole before now later stop is playing stopped at =
     let world = playing.world in
     grew_stopped IsReported before now later (played terms world all) (step_at terms world line) (λ (after : World). played terms after lines) whole stop
-    (ap (played terms world) is) (stopped terms world playing.stands) playing.written (at terms world playing.stands)
+    (ap (played terms world) is) (stopped terms world playing.stands) playing.written (at terms world playing.stands playing.follows)
 
 -- no line is left
 last_is : (terms : Terms) (world : World) (kit : Kit) → Stands terms world kit → last_of kit.day ≡ length (trace terms.listing world.state.core.accepted)

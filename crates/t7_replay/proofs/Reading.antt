@@ -94,6 +94,10 @@ stands_next terms world kit new stands is few = record {
   few_lines = omega (arith, few, stands.row);
   genuine = stands.genuine;
   keeps = λ acts are. subst (λ (i : Image). Keeps terms acts i (arrivals terms world.came)) (sym (ap (λ (k : Kit). k.image) is)) (stands.keeps acts are);
+  table = stands.table;
+  said = stands.said;
+  sound = stands.sound;
+  paired = stands.paired;
 }
 
 in_day : (terms : Terms) (world : World) (kit : Kit) → Stands terms world kit → kit.row + 1 ≤ 200_000 → nat_lt 200_000 (world.row + 1) ≡ false
@@ -117,8 +121,8 @@ next_done items kit mid new line (Err stop) done is few = tt
 next_done items kit mid new line (Ok text) done is few = record {
   went = λ terms world stands. subst (λ (s : Step World Moment). GoesTo s (λ after. Stands terms after new)) (sym (step_as terms world line false (in_day terms world kit stands few)))
       (done.went terms (on_next_line world) (stands_next terms world kit mid stands is few));
-  wrote = λ terms world stands. subst (λ (s : Step World Moment). WentOn IsReported s (items text)) (sym (step_as terms world line false (in_day terms world kit stands few)))
-      (done.wrote terms (on_next_line world) (stands_next terms world kit mid stands is few));
+  wrote = λ terms world stands follows. subst (λ (s : Step World Moment). WentOn IsReported s (items text)) (sym (step_as terms world line false (in_day terms world kit stands few)))
+      (done.wrote terms (on_next_line world) (stands_next terms world kit mid stands is few) follows);
 }
 
 pub next_refused : {T : Type 0} (kit mid : Kit) (line : List ℕ) (r : Result T Stop) → IfErr r (Refuses (λ terms world. done_read terms world line) mid)

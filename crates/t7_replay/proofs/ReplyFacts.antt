@@ -1,5 +1,5 @@
 -- Replies that are handed out one by one.
-use Rattle.std.proofs.Common.{◌≡◌, ℕ, ◌<◌, arith, Bool, List, [], ◌∷◌, ◌++◌, Option, Some, option_map, length, take, drop, refl, sym, ◌∙◌, ap, append_assoc}
+use Rattle.std.proofs.Common.{◌≡◌, ℕ, ◌<◌, arith, Bool, List, [], ◌∷◌, ◌++◌, Option, Some, option_map, length, take, drop, refl, sym, ◌∙◌, ap, subst, append_assoc}
 use Rattle.std.proofs.lemmas.List.{append-nil}
 use Rattle.std.proofs.Math.Seq.{take-append_seam}
 use Rattle.t7_layout.specs.Layouts.{Layout}
@@ -8,11 +8,11 @@ use Rattle.t7_eti.specs.Saying.{response_bytes}
 use Rattle.t7_entry.specs.Days.{Day}
 use Rattle.t7_entry.specs.State.{Reply, closes, sends}
 use Rattle.t7_exchange.specs.declared.replies.Reply.TheVariants as handed
-use Rattle.t7_exchange.specs.Handed.{first_handed, first_refused_for, first_written}
+use Rattle.t7_exchange.specs.Handed.{FirstIsSaid, first_handed, first_refused_for, first_written}
 use Rattle.t7_outcome.specs.Outcome.{text_of}
 use Rattle.t7_outcome.proofs.Lines.{text_of-append}
 use Rattle.t7_replay.specs.Calling.{Calling, told_all, with_close, with_frame}
-use Rattle.t7_replay.specs.Handing.{PrintsReply}
+use Rattle.t7_replay.specs.Handing.{AreSaidReplies, IsSaidReply, PrintsReply}
 use Rattle.t7_replay.specs.Lines.{close_line, out_line, reject_lines, replies_lines, reply_lines, under}
 
 -- the day without its first reply
@@ -30,6 +30,7 @@ pub prints_close : (raw : Bool) (old new : Day) (was now : Option Calling) (conn
 prints_close raw old new was now conn text later is next tells lines = record {
   reply = closes conn;
   first = closes_first old.setting.layouts conn old.waiting is ∙ ap (λ (w : List Reply). closes conn ∷ w) (sym (ap (λ (d : Day). d.waiting) next));
+  said = tt;
   others = without old new next;
   tells = tells;
   lines = lines;
@@ -59,15 +60,21 @@ frame_first layouts raw conn len out now reason (sends c r ∷ more) is written 
       lines = rw (same, frame, why) refl;
     }
 
+-- the first reply is said
+first_said : (layouts : List Layout) (reply : Reply) (more : List Reply) → FirstIsSaid layouts (reply ∷ more) → IsSaidReply layouts reply
+first_said layouts (sends conn r) more is = record { written = is.0; ranged = is.1 }
+first_said layouts (closes conn) more is = tt
+
 pub prints_frame : (raw : Bool) (old new : Day) (was told : Option Calling) (conn len : ℕ) (out now : List ℕ) (reason : Option Reason) (text later : List ℕ)
     → first_handed old.setting.layouts old.waiting ≡ Some (handed.Bytes conn len) → now ≡ first_written old.setting.layouts old.waiting out
     → reason ≡ first_refused_for old.waiting → new ≡ record old { waiting = drop 1 old.waiting }
-    → told ≡ option_map (with_frame conn (take len now)) was
+    → told ≡ option_map (with_frame conn (take len now)) was → FirstIsSaid old.setting.layouts old.waiting
     → later ≡ text ++ text_of (under raw (out_line conn (take len now) ∷ []) ++ reject_lines conn reason) → PrintsReply raw old new was told text later
-prints_frame raw old new was told conn len out now reason text later is written why next tells lines =
+prints_frame raw old new was told conn len out now reason text later is written why next tells spoken lines =
     let found = frame_first old.setting.layouts raw conn len out now reason old.waiting is written why in record {
       reply = found.reply;
       first = found.first ∙ ap (λ (w : List Reply). found.reply ∷ w) (sym (ap (λ (d : Day). d.waiting) next));
+      said = first_said old.setting.layouts found.reply (drop 1 old.waiting) (subst (FirstIsSaid old.setting.layouts) found.first spoken);
       others = without old new next;
       tells = tells ∙ found.tells was;
       lines = lines ∙ ap (λ (l : List (List ℕ)). text ++ text_of l) found.lines;
@@ -89,6 +96,19 @@ replies_on raw old new was now text later all prints is =
     ∙ ap (λ (l : List ℕ). text ++ l) (sym (text_of-append (reply_lines layouts raw prints.reply) (replies_lines layouts raw new.waiting)))
     ∙ ap (λ (w : List Reply). text ++ text_of (replies_lines layouts raw w)) (sym prints.first)
     ∙ is
+
+-- those that are left are said, and the first one was
+pub replies_said : (raw : Bool) (begun old new : Day) (was now : Option Calling) (text later : List ℕ) → PrintsReply raw old new was now text later
+    → (AreSaidReplies old.setting.layouts old.waiting → AreSaidReplies begun.setting.layouts begun.waiting)
+    → AreSaidReplies new.setting.layouts new.waiting → AreSaidReplies begun.setting.layouts begun.waiting
+replies_said raw begun old new was now text later prints goes are =
+    let layouts = old.setting.layouts in
+    let same : new.setting.layouts ≡ layouts = ap (λ (d : Day). d.setting.layouts) prints.others in
+    goes (subst (AreSaidReplies layouts) (sym prints.first) (prints.said, subst (λ (l : List Layout). AreSaidReplies l new.waiting) same are))
+
+pub said_none : (begun old : Day) → old.waiting ≡ [] → (AreSaidReplies old.setting.layouts old.waiting → AreSaidReplies begun.setting.layouts begun.waiting)
+    → AreSaidReplies begun.setting.layouts begun.waiting
+said_none begun old none goes = goes (subst (AreSaidReplies old.setting.layouts) (sym none) tt)
 
 -- none is left
 pub replies_none : (raw : Bool) (old : Day) (text all : List ℕ) → old.waiting ≡ [] → text ++ text_of (replies_lines old.setting.layouts raw old.waiting) ≡ all → text ≡ all

@@ -81,6 +81,10 @@ module _ (laws : GrowsByBeat) (terms : Terms) (world : World) (kit new : Kit) (r
     few_lines = stands.few_lines;
     genuine = λ not. laws.genuine terms world.acts (Beats ∷ []) world.came (stands.genuine not);
     keeps = λ all are. subst (λ (i : Image). Keeps terms all i (arrivals terms world.came)) (sym (ap (λ (k : Kit). k.image) is)) (stands.keeps all are);
+    table = stands.table;
+    said = stands.said;
+    sound = stands.sound;
+    paired = stands.paired;
   }
 
   pub lines_beat : under kit.raw (datagram_lines (codes "LIVE") (length kit.lives) (beat_of kit.day ∷ []))
@@ -169,6 +173,10 @@ module _ (laws : GrowsBySnap) (terms : Terms) (world : World) (kit new : Kit) (t
     few_lines = stands.few_lines;
     genuine = λ not. laws.genuine terms world.acts (Snaps ∷ []) world.came (stands.genuine not);
     keeps = λ all are. subst (λ (i : Image). Keeps terms all i (arrivals terms world.came)) (sym (ap (λ (k : Kit). k.image) keeps.others)) (stands.keeps all are);
+    table = stands.table;
+    said = stands.said;
+    sound = stands.sound;
+    paired = stands.paired;
   }
 
   pub lines_snap : text ≡ text_of (under world.raw (sent_lines (codes "SNAP") (sent_on terms world.acts Snap) (sent_on terms snap_acts Snap)))

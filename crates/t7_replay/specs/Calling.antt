@@ -1,12 +1,15 @@
 -- The client of a replay with the connection that it dialed, and what comes to it.
-use Rattle.std.specs.Prelude.{◌≡◌, ℕ, ◌≤◌, ◌+◌, ◌^◌, ◌==◌, nat_lt, ◌&&◌, ◌||◌, Bool, true, false, List, [], ◌++◌, ◌∷◌}
+use Rattle.std.specs.Prelude.{◌≡◌, ℕ, ◌<◌, ◌≤◌, ◌+◌, ◌^◌, ◌==◌, nat_lt, ◌&&◌, ◌||◌, Bool, true, false, List, [], ◌++◌, ◌∷◌}
 use Rattle.std.specs.Prelude.{Option, Some, None, option_map, is_some, drop, length, take, unwrap_or, if◌then◌else◌}
 use Rattle.std.specs.Option.{option_map_or}
 use Rattle.t7_layout.specs.Layouts.{Layout}
+use Rattle.t7_eti.specs.declared.response.Response.{Response}
 use Rattle.t7_eti.specs.Saying.{response_bytes}
 use Rattle.t7_client.specs.Recovering.{Recovery, cut, dialed, new_recovery}
 use Rattle.t7_client.specs.Hearing.{Heard, heard}
-use Rattle.t7_entry.specs.State.{Reply, closes, sends}
+use Rattle.t7_client.specs.Sound.{IsSound}
+use Rattle.t7_dialog.specs.Saying.{said_on}
+use Rattle.t7_entry.specs.State.{Doing, Reply, closes, sends}
 
 -- a client with the session that its first DIAL names, and the connection that it dialed last
 pub record Calling : Type 0 where
@@ -77,6 +80,11 @@ abbrev pub told_all : List Layout → List Reply → Option Calling → Option C
 told_all layouts [] caller = caller
 told_all layouts (reply ∷ replies) caller = told_all layouts replies (option_map (told layouts reply) caller)
 
+-- what is said to the client among what was done: the responses that go out on the connection that it is on
+abbrev pub said_to : Option Calling → List Doing → List Response
+said_to None doings = []
+said_to (Some calling) doings = if is_on_line calling then said_on calling.conn doings else []
+
 -- the next so many of the bytes that the client has queued are sent
 abbrev pub sent_up : ℕ → Calling → Calling
 sent_up count calling = record calling { client = record calling.client { queue = drop count calling.client.queue } }
@@ -109,3 +117,13 @@ HandsUp count old new (Some bytes) = (nat_lt (length old.client.queue) count ≡
 -- so many bytes can't come to the client: they are not there, or more than 2^35 would come since its dial
 abbrev pub is_too_much : ℕ → Calling → Bool
 is_too_much count calling = nat_lt (length calling.coming) count || nat_lt (2 ^ 35) (calling.client.treated + length calling.client.rest + count)
+
+-- what always holds of a client: that of its machine, and its list is no longer than one in memory
+pub record IsSoundCalling (calling : Calling) : Type 0 where
+  pub sound : IsSound calling.client
+  pub few : length calling.client.gathered < 2 ^ 64
+
+-- the same where there is one
+abbrev pub IsSoundCaller : Option Calling → Type 0
+IsSoundCaller None = Unit {0}
+IsSoundCaller (Some calling) = IsSoundCalling calling

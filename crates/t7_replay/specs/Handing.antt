@@ -1,7 +1,9 @@
 -- What waits at the exchange is handed out, one by one.
 use Rattle.std.specs.Prelude.{◌≡◌, ℕ, ◌+◌, Bool, true, false, List, [], ◌∷◌, ◌++◌, codes, length, map, Option}
 use Rattle.t7_entry.specs.Days.{Day, due}
-use Rattle.t7_entry.specs.State.{Reply}
+use Rattle.t7_layout.specs.Layouts.{Layout}
+use Rattle.t7_dialog.specs.Saying.{IsSaid}
+use Rattle.t7_entry.specs.State.{Reply, closes, sends}
 use Rattle.t7_packets.specs.Packing.{datagram_bytes}
 use Rattle.t7_outcome.specs.Outcome.{text_of}
 use Rattle.t7_replay.specs.Calling.{Calling, told_all}
@@ -15,10 +17,21 @@ due_bytes day = map (datagram_bytes day.setting.layouts day.setting.listing.segm
 abbrev pub handed_out : Day → Day
 handed_out day = record day { waiting = []; untold = []; live = day.live + length (due day) }
 
+-- the bytes of each response among replies say it
+abbrev pub IsSaidReply : List Layout → Reply → Type 0
+IsSaidReply layouts (sends conn r) = IsSaid layouts r
+IsSaidReply layouts (closes conn) = Unit {0}
+
+-- so is each of these
+abbrev pub AreSaidReplies : List Layout → List Reply → Type 0
+AreSaidReplies layouts [] = Unit {0}
+AreSaidReplies layouts (reply ∷ replies) = IsSaidReply layouts reply × AreSaidReplies layouts replies
+
 -- the first reply that waits is taken off, the client is told it, and its lines are put behind a text
 pub record PrintsReply (raw : Bool) (old new : Day) (was now : Option Calling) (text later : List ℕ) : Type 0 where
   pub reply : Reply
   pub first : old.waiting ≡ reply ∷ new.waiting
+  pub said : IsSaidReply old.setting.layouts reply
   pub others : new ≡ record old { waiting = new.waiting }
   pub tells : now ≡ told_all old.setting.layouts (reply ∷ []) was
   pub lines : later ≡ text ++ text_of (reply_lines old.setting.layouts raw reply)

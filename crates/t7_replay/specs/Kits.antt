@@ -15,6 +15,7 @@ use Rattle.t7_acts.specs.Left.{left_of}
 use Rattle.t7_feed.specs.Arrivals.{Delivery, Terms, arrivals, reading_of}
 use Rattle.t7_feed.specs.Sending.{AreActs, Genuine, beats_in, cycle_now, sent_on, snap_datagram_bytes, snaps_in, under_way}
 use Rattle.t7_layout.specs.Layouts.{Layout}
+use Rattle.t7_layout.specs.Lookups.{IsTable}
 use Rattle.t7_member.specs.Keeping.{Image, Keeps}
 use Rattle.t7_member.specs.declared.member.Delivered.{Delivered}
 use Rattle.t7_member.specs.declared.member.Delivered.TheVariants.{Bad, Taken}
@@ -24,7 +25,10 @@ use Rattle.t7_outcome.specs.Outcome.{text_of}
 use Rattle.t7_outcome.specs.Steps.{GoesTo, Step, Stopped, WentOn}
 use Rattle.t7_script.specs.declared.event.Event.{Event}
 use Rattle.t7_script.specs.declared.event.Event.TheVariants.{Clear, Dial, Order}
-use Rattle.t7_replay.specs.Calling.{Calling, made_by, told_all}
+use Rattle.t7_exchange.specs.Paired.{ArePaired}
+use Rattle.t7_dialog.specs.Saying.{AreSaid}
+use Rattle.t7_replay.specs.Calling.{Calling, IsSoundCaller, made_by, told_all}
+use Rattle.t7_replay.specs.Following.{Follows}
 use Rattle.t7_replay.specs.Handing.{due_bytes, handed_out}
 use Rattle.t7_replay.specs.Lines.{bad_lines, datagram_lines, replies_lines, under}
 use Rattle.t7_replay.specs.Reports.{IsReported, Moment}
@@ -59,7 +63,8 @@ day_at terms world = record {
 
 -- The program stands in a world: it keeps what the world says and the datagrams that its acts send. The commands of the acts are the accepted
 -- ones, there are no more heartbeats, snapshot datagrams and orders of the client than lines, and where nothing was forged what was
--- delivered is genuine. Whatever the exchange did, the member keeps what it is to keep of what was delivered.
+-- delivered is genuine. Whatever the exchange did, the member keeps what it is to keep of what was delivered. The table is valid, the bytes of each response that was
+-- said to the client say it, the client is one that a program may hold, and a connection on which nothing may come has no line.
 pub record Stands (terms : Terms) (world : World) (kit : Kit) : Type 0 where
   pub day : kit.day ≡ day_at terms world
   pub lives : kit.lives ≡ sent_on terms world.acts Live
@@ -78,6 +83,10 @@ pub record Stands (terms : Terms) (world : World) (kit : Kit) : Type 0 where
   pub few_lines : world.row ≤ 200_000
   pub genuine : world.forged ≡ false → Genuine terms world.acts world.came
   pub keeps : (acts : List Act) → AreActs terms.listing acts → Keeps terms acts kit.image (arrivals terms world.came)
+  pub table : IsTable terms.layouts
+  pub said : AreSaid terms.layouts world.said
+  pub sound : IsSoundCaller world.caller
+  pub paired : ArePaired world.state
 
 -- the table and the product of a program
 abbrev pub terms_of : Kit → Terms
@@ -158,9 +167,14 @@ pub record Gives (feed : Feed) (bytes : List ℕ) (old new : Image) (text : List
       → Keeps terms acts new (arrivals terms (record { feed = feed; bytes = bytes } ∷ dl))
   pub lines : text ≡ text_of (bad_lines (fault_of (reading_of old.terms feed) bytes))
 
--- In each world in which the program stands, the step was done: the program stands in the world that it leads to, and this is the text of what
--- it prints.
+-- In each world in which the program stands, the step was done: the program stands in the world that it leads to, and, where the client follows the exchange in that
+-- world, this is the text of what it prints.
 pub record Does (step : Terms → World → Step World Moment) (old new : Kit) (text : List ℕ) : Type 0 where
+  pub went : (terms : Terms) (world : World) → Stands terms world old → GoesTo (step terms world) (λ after. Stands terms after new)
+  pub wrote : (terms : Terms) (world : World) → Stands terms world old → Follows terms world → WentOn IsReported (step terms world) text
+
+-- the same of a step whose text needs nothing of the client
+pub record Enters (step : Terms → World → Step World Moment) (old new : Kit) (text : List ℕ) : Type 0 where
   pub went : (terms : Terms) (world : World) → Stands terms world old → GoesTo (step terms world) (λ after. Stands terms after new)
   pub wrote : (terms : Terms) (world : World) → Stands terms world old → WentOn IsReported (step terms world) text
 

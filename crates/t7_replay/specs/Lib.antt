@@ -6,3 +6,4 @@ pub mod Reports
 pub mod Script
 pub mod Steps
 pub mod World
+pub mod Following

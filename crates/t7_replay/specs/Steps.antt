@@ -5,7 +5,7 @@ use Rattle.t7_base.specs.declared.ids.Channel.TheVariants.{Live, Snap}
 use Rattle.t7_base.specs.declared.ids.Feed.{Feed}
 use Rattle.t7_book.specs.Acts.{Accepts, Act, Beats, Snaps}
 use Rattle.t7_book.specs.Trace.{trace}
-use Rattle.t7_client.specs.Recovering.{is_recovered, making}
+use Rattle.t7_client.specs.Recovering.{making}
 use Rattle.t7_eobi.specs.Faults.{fault_of}
 use Rattle.t7_eti.specs.declared.request.Request.{Request}
 use Rattle.t7_eti.specs.declared.request.Request.TheVariants as request
@@ -28,10 +28,9 @@ use Rattle.t7_script.specs.declared.event.Event.TheVariants as event
 use Rattle.t7_script.specs.declared.event.LineRefusal.{LineRefusal}
 use Rattle.t7_script.specs.declared.event.LineRefusal.TheVariants as refusal
 use Rattle.t7_script.specs.Events.{event_of}
-use Rattle.t7_report.specs.Gathered.{gathered_lines}
-use Rattle.t7_replay.specs.Calling.{Calling, any_on, any_on_line, came_down, client_for, cut_on, dials, is_for, is_on_line, is_too_much, sent_up, told_all}
+use Rattle.t7_replay.specs.Calling.{Calling, any_on, any_on_line, came_down, client_for, cut_on, dials, is_for, is_on_line, is_too_much, said_to, sent_up, told_all}
 use Rattle.t7_replay.specs.Lines.{bad_lines, day_full_line, replies_lines, sent_lines, under}
-use Rattle.t7_replay.specs.Reports.{Moment}
+use Rattle.t7_replay.specs.Reports.{AtList, AtShow, Gathering, Moment, Showing}
 use Rattle.t7_replay.specs.World.{World, on_next_line}
 
 -- a line can't be done: a connection is open and must not be, or the other way round
@@ -53,7 +52,12 @@ acts_after world state = world.acts ++ map Accepts (drop (length world.state.cor
 -- the world after what an event did at the exchange, of whose replies those on the client's connection are on their way to the client
 abbrev pub after_entry : Terms → World → entry.Result → World
 after_entry terms world result =
-    record world { state = result.state; acts = acts_after world result.state; caller = told_all terms.layouts (replies_in result.doings) world.caller }
+    record world {
+      state = result.state;
+      acts = acts_after world result.state;
+      caller = told_all terms.layouts (replies_in result.doings) world.caller;
+      said = world.said ++ said_to world.caller result.doings;
+    }
 
 -- what an event at the exchange prints: the replies in their order, and under RAW the live datagrams that the new commands send
 abbrev pub entry_lines : Terms → World → entry.Result → List (List ℕ)
@@ -122,7 +126,7 @@ abbrev pub dialing : Terms → World → ℕ → ℕ → Step World Moment
 dialing terms world conn session =
     if contains_key world.state.inputs conn || any_on_line world.caller then connection_fault world
     else if is_for session world.caller then
-    entered terms (record world { caller = Some (dials conn (client_for terms.layouts session world.caller)) }) (entry.Opened conn)
+    entered terms (record world { caller = Some (dials conn (client_for terms.layouts session world.caller)); said = [] }) (entry.Opened conn)
     else client_fault world
 
 -- ORDER: the client queues a request for a new order, while it is logged on
@@ -156,13 +160,17 @@ abbrev pub going_down : World → Option ℕ → Option Calling → Step World M
 going_down world count None = client_fault world
 going_down world count (Some calling) = receiving world calling (unwrap_or count (length calling.coming))
 
--- LIST: the client's report
-abbrev pub reporting : World → Option Calling → Step World Moment
-reporting world None = client_fault world
-reporting world (Some calling) = Goes world (says (gathered_lines (is_recovered calling.client) calling.client.gathered))
+-- what a report of the client is about now
+abbrev pub gathering_of : Terms → World → Calling → Gathering
+gathering_of terms world calling = record { listing = terms.listing; acts = world.acts; said = world.said; calling = calling }
 
--- what a report is about now
-abbrev pub moment_of : Terms → World → Moment
+-- LIST: the client's report
+abbrev pub reporting : Terms → World → Option Calling → Step World Moment
+reporting terms world None = client_fault world
+reporting terms world (Some calling) = Goes world (Shows (AtList (gathering_of terms world calling)) ∷ [])
+
+-- what a report of the member is about now
+abbrev pub moment_of : Terms → World → Showing
 moment_of terms world = record { terms = terms; acts = world.acts; came = world.came; forged = world.forged }
 
 -- the events: what each does in a world
@@ -177,13 +185,13 @@ done_by terms world event.Beat = beating terms world
 done_by terms world event.Snap = snapping terms world
 done_by terms world (event.Deliver feed number) = delivering terms world feed (at_number (sent_on terms world.acts (channel_of feed)) number)
 done_by terms world (event.Forge feed bytes) = delivered terms (record world { forged = true }) feed bytes
-done_by terms world event.Show = Goes world (Shows (moment_of terms world) ∷ [])
+done_by terms world event.Show = Goes world (Shows (AtShow (moment_of terms world)) ∷ [])
 done_by terms world (event.Dial conn session) = dialing terms world conn session
 done_by terms world (event.Order security side price quantity client) =
     ordering world (λ number. request.New number security (side_number side) price (pos quantity) client) world.caller
 done_by terms world (event.Up count) = going_up terms world count world.caller
 done_by terms world (event.Down count) = going_down world count world.caller
-done_by terms world event.List = reporting world world.caller
+done_by terms world event.List = reporting terms world world.caller
 
 -- why a line stops that is no event: the first test that it fails
 abbrev pub stop_of : ℕ → LineRefusal → Stop

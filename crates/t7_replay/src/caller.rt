@@ -8,7 +8,7 @@ ghost use Rattle.t7_eti.specs.Saying.{side_number};
 ghost use Rattle.t7_outcome.specs.Outcome.{text_of};
 ghost use Rattle.t7_report.specs.Gathered.{gathered_lines};
 ghost use Rattle.t7_replay.specs.Calling as calling;
-ghost use Rattle.t7_replay.specs.Calling.{HandsUp, came_down, dials, hangs_up, is_on, is_on_line, is_too_much, new_calling, with_close, with_frame};
+ghost use Rattle.t7_replay.specs.Calling.{HandsUp, IsSoundCalling, came_down, dials, hangs_up, is_on, is_on_line, is_too_much, new_calling, with_close, with_frame};
 
 use std::alloc::{AllocError, Global};
 use std::marker::Model;
@@ -197,6 +197,18 @@ impl<'a> Caller<'a> {
 
     /// So many of the bytes that are on their way come to the client. An error comes only where memory is wanting.
     pub(crate) fn down(&mut self, count: usize) -> Result<(), AllocError>
+        requires { is_too_much count self.old ≡ false }
+        ensures came { OnOk result (self.new ≡ came_down count self.old) }
+        ensures made { OnOk result (self.new.client.made ≤ self.old.client.made) }
+        ensures sound { OnOk result (IsSoundCalling self.new) }
+    {
+        let done = self.take_down(count);
+        self.client.is_sound();
+        done
+    }
+
+    // The same, of which nothing is said but what it comes to.
+    fn take_down(&mut self, count: usize) -> Result<(), AllocError>
         requires { is_too_much count self.old ≡ false }
         ensures came { OnOk result (self.new ≡ came_down count self.old) }
         ensures made { OnOk result (self.new.client.made ≤ self.old.client.made) }

@@ -4,7 +4,7 @@ ghost use Rattle.std.specs.Prelude.{◌≡◌, ◌≤◌, ◌+◌, ◌++◌, ◌
 ghost use Rattle.t7_entry.specs.Days.{due};
 ghost use Rattle.t7_outcome.specs.Outcome.{text_of};
 ghost use Rattle.t7_replay.specs.Calling.{told_all};
-ghost use Rattle.t7_replay.specs.Handing.{KeepsNext, PrintsNext, due_bytes};
+ghost use Rattle.t7_replay.specs.Handing.{AreSaidReplies, KeepsNext, PrintsNext, due_bytes};
 ghost use Rattle.t7_replay.specs.Lines.{datagram_lines, replies_lines, under};
 
 use crate::caller::{Caller, tell_close, tell_frame};
@@ -22,6 +22,7 @@ pub(crate) fn put_replies(
     text: &mut Vec<u8>,
 ) -> Result<(), AllocError>
     ensures day { OnOk result (exchange.new ≡ record exchange.old { waiting = [] }) }
+    ensures said { OnOk result (AreSaidReplies exchange.old.setting.layouts exchange.old.waiting) }
     ensures caller { OnOk result (caller.new ≡ told_all exchange.old.setting.layouts exchange.old.waiting caller.old) }
     ensures text { OnOk result (text.new.items ≡ text.old.items ++ text_of (replies_lines exchange.old.setting.layouts raw exchange.old.waiting)) }
 {

@@ -13,6 +13,7 @@ use crate::first::first_line;
 use crate::replayer::Replayer;
 use std::alloc::Global;
 use t7_base::{Product, Sink};
+use t7_dialog::{clients_are_served, clients_ask_for_responses, what_comes_is_gathered};
 use t7_layout::Table;
 use t7_outcome::{Finish, Stop};
 
@@ -21,8 +22,8 @@ use t7_outcome::{Finish, Stop};
 ///
 /// `Script` comes exactly where the line that it names stops the script, `WriteFault` only where the count of the sink rose, and
 /// `Memory` only where memory is wanting. What is written is the text of the lines' parts, of which either of the last two
-/// may cut off the end; and where a part is a report, which is at each SHOW, stand the lines of a state and of orders that are reported as
-/// `IsReported` says.
+/// may cut off the end; and where a part is a report stand lines as `IsReported` says: at each SHOW those of a state and of orders, and at each
+/// LIST those of a front of the responses that the exchange has stored for the client's session.
 pub fn play<S: Sink>(
     alloc: Global,
     table: &Table,
@@ -57,6 +58,9 @@ fn play_lines<S: Sink>(
     ensures count { S.faults sink.old ≤ S.faults sink.new }
     ensures write_fault { result ≡ Err Stop.WriteFault → Rose (S.faults sink.old) (S.faults sink.new) }
 {
+    clients_are_served();
+    what_comes_is_gathered();
+    clients_ask_for_responses();
     let mut rest = script;
     while !rest.is_empty() {
         let (line, after) = first_line(rest);

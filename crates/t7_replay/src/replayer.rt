@@ -11,7 +11,9 @@ ghost use Rattle.t7_outcome.specs.Outcome.{text_of};
 ghost use Rattle.t7_outcome.specs.Steps.{GoesTo, Stopped, StoppedAt, WentOn};
 ghost use Rattle.t7_script.specs.declared.event.Event.TheVariants as kind;
 ghost use Rattle.t7_replay.specs.Calling.{cut_on};
-ghost use Rattle.t7_replay.specs.Kits.{Does, Gives, IsOfForm, IsPlaying, IsReady, KeepsSnap, Kit, Refuses, Stands};
+ghost use Rattle.t7_replay.specs.Following.{Follows};
+ghost use Rattle.t7_replay.specs.Handing.{AreSaidReplies};
+ghost use Rattle.t7_replay.specs.Kits.{Does, Enters, Gives, IsOfForm, IsPlaying, IsReady, KeepsSnap, Kit, Refuses, Stands};
 ghost use Rattle.t7_replay.specs.Kits.{after_beat, beat_of, fault_in, handed, on_channel, waiting_lines};
 ghost use Rattle.t7_replay.specs.Lines.{bad_lines, datagram_lines, day_full_line, under};
 ghost use Rattle.t7_replay.specs.Reports.{IsReported};
@@ -87,7 +89,7 @@ impl<'a> Replayer<'a> {
         let Some(moment) = Moment::new(0) else {
             unreachable!()
         };
-        Ok(Replayer {
+        let replayer = Replayer {
             exchange: Exchange::new(alloc, table, product)?,
             member: Member::new(alloc, table, product)?,
             lives: Vec::new(alloc),
@@ -99,7 +101,9 @@ impl<'a> Replayer<'a> {
             table,
             product,
             alloc,
-        })
+        };
+        replayer.exchange.is_sound();
+        Ok(replayer)
     }
 
     /// The number of the last live message, 0 where there was none.
@@ -115,11 +119,11 @@ impl<'a> Replayer<'a> {
         ensures went { OnOk result ((terms : Terms) (world : World) → Stands terms world self.old
             → GoesTo (step_at terms world line.now) (λ after. Stands terms after self.new)) }
         ensures wrote { OnOk result ((terms : Terms) (world : World) → Stands terms world self.old
-            → Grew (S.written sink.old) (S.written sink.new) (WentOn IsReported (step_at terms world line.now))) }
+            → Follows terms world → Grew (S.written sink.old) (S.written sink.new) (WentOn IsReported (step_at terms world line.now))) }
         ensures stopped { IfErr result (λ stop. (terms : Terms) (world : World) → Stands terms world self.old
             → Stopped (step_at terms world line.now) stop) }
         ensures stopped_at { IfErr result (λ stop. (terms : Terms) (world : World) → Stands terms world self.old
-            → Grew (S.written sink.old) (S.written sink.new) (StoppedAt IsReported (step_at terms world line.now) stop)) }
+            → Follows terms world → Grew (S.written sink.old) (S.written sink.new) (StoppedAt IsReported (step_at terms world line.now) stop)) }
         ensures only { IfErr result OfPlay }
         ensures count { S.faults sink.old ≤ S.faults sink.new }
         ensures write_fault { result ≡ Err Stop.WriteFault → Rose (S.faults sink.old) (S.faults sink.new) }
@@ -419,18 +423,20 @@ impl<'a> Replayer<'a> {
     /// Hands out what waits at the exchange after an event, which so is done. An error comes only where memory is wanting.
     pub(crate) fn enter(&mut self) -> Result<Vec<u8>, Stop>
         ensures done { IfOk result (λ text. (before : Kit) (event : Happening) → self.old ≡ record before { day = day_after before.day event }
-            → Does (λ terms world. entered terms world event) before self.new text.items) }
+            → Enters (λ terms world. entered terms world event) before self.new text.items) }
         ensures only { IfErr result (λ stop. stop ≡ Stop.Memory) }
     {
         days_stay_in_step();
         more_commands_send_more();
         genuine_stays();
+        self.exchange.is_sound();
         self.hand_out()
     }
 
     // Hands out all that waits at the exchange, and answers the text of it. An error comes only where memory is wanting.
     fn hand_out(&mut self) -> Result<Vec<u8>, Stop>
         ensures kit { OnOk result (self.new ≡ handed self.old) }
+        ensures said { OnOk result (AreSaidReplies self.old.day.setting.layouts self.old.day.waiting) }
         ensures text { IfOk result (λ text. text.items ≡ text_of (waiting_lines self.old)) }
         ensures only { IfErr result (λ stop. stop ≡ Stop.Memory) }
     {

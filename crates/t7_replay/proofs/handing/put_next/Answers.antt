@@ -16,4 +16,4 @@ returns-in_ok-put_frame-in-Some-Bytes c =
     prints_frame c.args.raw c.args.exchange.now c.next_reply.new.self c.args.caller.now c.tell_frame.new.caller c.in-Some-Bytes.conn c.in-Some-Bytes.len _ c.next_reply.new.out c.next_refusal-reason.result
     c.args.text.now.items c.put_frame.new.text.items
     is c.in-Some-Bytes.ensures.bytes c.next_refusal-reason.ensures
-    c.in-Some-Bytes.ensures.others c.in_ok-tell_frame-in-Some-Bytes.ensures c.in_ok-put_frame-in-Some-Bytes.ensures
+    c.in-Some-Bytes.ensures.others c.in_ok-tell_frame-in-Some-Bytes.ensures (search rules) c.in_ok-put_frame-in-Some-Bytes.ensures

@@ -24,7 +24,7 @@ returns-in_err-act-clause-written g c =
 pub loop-rest-preserved : goal.loop-rest-preserved
 loop-rest-preserved g c =
     let terms = terms_of c.args.replayer.now in record {
-      playing = playing_next terms c.loop-rest.replayer c.act.new.self (lines_of c.loop-rest.rest.now) c.first_line.result.0.now (lines_of c.first_line.result.1.now)
+      playing = playing_next (record { served = c.clients_are_served.ensures; comes = c.what_comes_is_gathered.ensures; asks = c.clients_ask_for_responses.ensures }) terms c.loop-rest.replayer c.act.new.self (lines_of c.loop-rest.rest.now) c.first_line.result.0.now (lines_of c.first_line.result.1.now)
           (played terms new_world (lines_of c.args.script.now)) _ _ _ c.first_line.ensures.lines c.loop-rest.invariant.playing
           c.in_ok-act.ensures.went c.in_ok-act.ensures.wrote;
       count = omega arith;

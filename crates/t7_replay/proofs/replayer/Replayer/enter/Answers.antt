@@ -1,3 +1,4 @@
+use Rattle.std.proofs.Common.{rules}
 use Rattle.t7_replay.proofs.Entering.{entered_all}
 use Rattle.t7_replay.proofs.replayer.Replayer.enter.Goals as goal
 
@@ -12,4 +13,4 @@ returns-clause-done c =
       snaps = c.more_commands_send_more.ensures.snaps;
       genuine = c.genuine_stays.ensures;
     })
-    c.args.self.now c.hand_out.new.self c.hand_out.result c.hand_out.ensures.kit c.hand_out.ensures.text
+    c.args.self.now c.hand_out.new.self c.hand_out.result c.hand_out.ensures.kit c.hand_out.ensures.text c.hand_out.ensures.said (search rules)
