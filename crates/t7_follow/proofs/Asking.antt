@@ -1,5 +1,6 @@
 -- Binds that are asked one after another.
 use Rattle.std.proofs.Common.{◌≡◌, ℕ, List, [], ◌∷◌, ◌++◌, true, Option, Result, Ok, Err, sym, ◌∙◌, ap, subst, append_assoc}
+use Rattle.std.proofs.lemmas.List.{append-nil}
 use Rattle.t7_base.specs.Outside.{Begins, Grew}
 use Rattle.t7_base.specs.declared.ids.Feed.{Feed}
 use Rattle.t7_base.proofs.Grown.{grew_as, grew_then}
@@ -32,6 +33,19 @@ asks_first {T} {U} p q xs ys first second is ended front =
     (λ a one. subst (λ (r : Result U Stop). AsksFor (xs ++ ys) r a) (sym ended)
     (let cut : Begins a xs = subst (λ (r : Result T Stop). AsksFor xs r a) is one in
     (cut.0 ++ ys, sym (append_assoc a cut.0 ys) ∙ ap (λ (l : List Bind). l ++ ys) cut.1)))
+
+-- all were asked, and nothing behind them
+asks_them : {U : Type 0} (xs a : List Bind) (second : Result U Stop) → a ≡ xs → AsksFor xs second a
+asks_them xs a (Ok done) is = is
+asks_them xs a (Err NetFault) is = ([], append-nil a ∙ is)
+asks_them xs a (Err stop) is = is
+
+pub asks_all : {T U : Type 0} (p q o : Option (List Bind)) (xs : List Bind) (first : Result T Stop) (x : T) (second : Result U Stop) → first ≡ Ok x → o ≡ q
+    → Grew p q (AsksFor xs first) → Grew p o (AsksFor xs second)
+asks_all {T} {U} p q o xs first x second is same front =
+    subst (λ (v : Option (List Bind)). Grew p v (AsksFor xs second)) (sym same)
+    (grew_as p q (AsksFor xs first) (AsksFor xs second) front
+    (λ a one. asks_them xs a second (subst (λ (r : Result T Stop). AsksFor xs r a) is one)))
 
 -- two feeds that are bound for listening
 abbrev pub pair_of : Feed → List ℕ → Feed → List ℕ → List Bind

@@ -15,18 +15,11 @@ use Rattle.t7_outcome.specs.Outcome.{Ends, Fronts, Outcome, Part, Shows, Spelled
 use Rattle.t7_outcome.specs.Steps.{Prints}
 use Rattle.t7_outcome.proofs.Lines.{fronts_all, fronts_none, spelled_shown}
 use Rattle.t7_follow.specs.Clauses.{TakesUpTo, WroteAll}
-use Rattle.t7_follow.specs.Followers.{Following, KeepsAll, Stands, Watches, WroteCut, final_lines}
+use Rattle.t7_follow.specs.Followers.{Followed, Following, KeepsAll, Stands, Watches, WroteCut, final_lines}
 use Rattle.t7_follow.specs.Following.{finished, followed, watching}
 use Rattle.t7_follow.specs.Members.{IsShown, Made}
 use Rattle.t7_follow.specs.Reports.{Final, IsReported, Moment, delivered}
 use Rattle.t7_follow.proofs.Watching.{wrote_both, wrote_cut}
-
--- What these receipts came to, which stand in the order in which they were taken.
-pub record Followed (terms : Terms) (count : ℕ) (ended : Ended) (old new : Option (List ℕ)) (receipts : List LineItem) : Type 0 where
-  pub end : Ends (followed terms count (reverse receipts)) ended
-  pub written : Grew old new (Wrote IsReported (followed terms count (reverse receipts)) ended)
-  pub due : ended ≡ Err NetFault → Grew old new (WroteAll IsReported (watching terms (reverse receipts)))
-  pub taken : TakesUpTo count ended receipts
 
 -- it was stopped before the first receipt
 none_at_net : (terms : Terms) (count : ℕ) (p : Option (List ℕ)) → Followed terms count (Err NetFault) p p []
@@ -188,3 +181,8 @@ told_ended terms count now r x ended t s u p q o same is are law all end only ba
     subst (λ (v : Option (List LineItem)). Grew v u (Followed terms count ended p o)) same
     (grew_as s u (λ xs. Watches terms count now p q r (reverse xs)) (Followed terms count ended p o) all
     (λ xs watches. followed_ended terms count now r x ended p q o xs is are law watches end only back))
+
+-- what was taken by a call behind others that took nothing
+pub told_from : (terms : Terms) (count : ℕ) (ended : Ended) (t s u : Option (List LineItem)) (p q : Option (List ℕ)) → s ≡ t → Grew s u (Followed terms count ended p q)
+    → Grew t u (Followed terms count ended p q)
+told_from terms count ended t s u p q same all = subst (λ (v : Option (List LineItem)). Grew v u (Followed terms count ended p q)) same all

@@ -1,5 +1,5 @@
 -- What a member that follows the feed has at hand, and what its receipts make of it.
-use Rattle.std.specs.Prelude.{◌≡◌, ℕ, ◌+◌, ◌≤◌, List, [], ◌∷◌, ◌++◌, Option, Result, Ok, Err, length}
+use Rattle.std.specs.Prelude.{◌≡◌, ℕ, ◌+◌, ◌≤◌, List, [], ◌∷◌, ◌++◌, Option, Result, Ok, Err, length, reverse}
 use Rattle.t7_base.specs.Outside.{Begins, Grew}
 use Rattle.t7_base.specs.declared.ids.Feed.{Feed}
 use Rattle.t7_book.specs.Acts.{Act}
@@ -10,9 +10,10 @@ use Rattle.t7_net.specs.declared.line.LineItem.{LineItem}
 use Rattle.t7_net.specs.declared.line.LineItem.TheVariants.{Datagram, Quiet}
 use Rattle.t7_outcome.specs.declared.ending.Stop.{Stop}
 use Rattle.t7_outcome.specs.declared.ending.Stop.TheVariants.{NetFault, WriteFault}
-use Rattle.t7_outcome.specs.Outcome.{Part, Shows, Spelled, text_of}
-use Rattle.t7_follow.specs.Clauses.{WroteAll}
-use Rattle.t7_follow.specs.Following.{watching}
+use Rattle.t7_outcome.specs.Ending.{Ended}
+use Rattle.t7_outcome.specs.Outcome.{Ends, Part, Shows, Spelled, Wrote, text_of}
+use Rattle.t7_follow.specs.Clauses.{TakesUpTo, WroteAll}
+use Rattle.t7_follow.specs.Following.{followed, watching}
 use Rattle.t7_follow.specs.Lines.{report_lines, tally_lines}
 use Rattle.t7_follow.specs.Members.{Made, Takes, orders_of, state_of}
 use Rattle.t7_follow.specs.Reports.{IsReported, StandsAt, Watched, delivered}
@@ -74,3 +75,10 @@ abbrev pub OfWatch : Stop → Type 0
 OfWatch NetFault = Unit {0}
 OfWatch WriteFault = Unit {0}
 OfWatch _ = ⊥
+
+-- What the command came to by these receipts, which stand in the order in which they were taken.
+pub record Followed (terms : Terms) (count : ℕ) (ended : Ended) (old new : Option (List ℕ)) (receipts : List LineItem) : Type 0 where
+  pub end : Ends (followed terms count (reverse receipts)) ended
+  pub written : Grew old new (Wrote IsReported (followed terms count (reverse receipts)) ended)
+  pub due : ended ≡ Err NetFault → Grew old new (WroteAll IsReported (watching terms (reverse receipts)))
+  pub taken : TakesUpTo count ended receipts

@@ -1,10 +1,11 @@
 //! The member's command: it binds the four feeds, takes receipts, and prints what it shows.
 ghost use Rattle.std.specs.Prelude.{◌≡◌, ◌≤◌, [], ◌∷◌, ◌++◌, Err, IfErr, OnOk, OnErr, reverse, true};
 ghost use Rattle.t7_base.specs.Outside.{Begins, Grew, HasCause, Rose};
-ghost use Rattle.t7_feed.specs.Arrivals.{AreTerms};
+ghost use Rattle.t7_feed.specs.Arrivals.{AreTerms, Terms};
 ghost use Rattle.t7_net.specs.Lines.{Bind};
 ghost use Rattle.t7_outcome.specs.Outcome.{Ends, Wrote};
 ghost use Rattle.t7_follow.specs.Clauses.{AsksFor, OfFollow, TakesUpTo, WroteAll, binds_of};
+ghost use Rattle.t7_follow.specs.Followers.{Followed, OfWatch, Stands};
 ghost use Rattle.t7_follow.specs.Following.{followed, terms_of, watching};
 ghost use Rattle.t7_follow.specs.Reports.{IsReported};
 
@@ -72,7 +73,28 @@ pub fn follow<D: Lines, S: Sink>(
     let Ok(mut follower) = Follower::new(alloc, table, product) else {
         return Err(Stop::Memory);
     };
-    watch(&mut follower, count, lines, sink)?;
+    show(&mut follower, count, lines, sink)
+}
+
+// Takes the receipts, and then prints the report.
+fn show<D: Lines, S: Sink>(
+    follower: &mut Follower<'_>,
+    count: u32,
+    lines: &mut D,
+    sink: &mut S,
+) -> Result<Finish, Stop>
+    requires { follower.old.datagrams ≡ 0 }
+    ensures shown { (terms : Terms) → AreTerms terms → Stands terms [] follower.old
+        → Grew (D.taken lines.old) (D.taken lines.new) (Followed terms count result (S.written sink.old) (S.written sink.new)) }
+    ensures asked { D.asked lines.new ≡ D.asked lines.old }
+    ensures cast { D.cast lines.new ≡ D.cast lines.old }
+    ensures only { IfErr result OfWatch }
+    ensures lines_count { D.faults lines.old ≤ D.faults lines.new }
+    ensures net_fault { result ≡ Err Stop.NetFault → Rose (D.faults lines.old) (D.faults lines.new) }
+    ensures sink_count { S.faults sink.old ≤ S.faults sink.new }
+    ensures write_fault { result ≡ Err Stop.WriteFault → Rose (S.faults sink.old) (S.faults sink.new) }
+{
+    watch(follower, count, lines, sink)?;
     follower.finish(sink)
 }
 

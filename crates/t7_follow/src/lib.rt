@@ -9,6 +9,3 @@ mod print;
 
 pub use command::{Addresses, follow};
 pub use laws::counts_are_of_accepted;
-
-#[cfg(test)]
-mod tests;

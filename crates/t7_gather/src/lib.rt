@@ -6,6 +6,3 @@ mod command;
 mod gatherer;
 
 pub use command::gather;
-
-#[cfg(test)]
-mod tests;

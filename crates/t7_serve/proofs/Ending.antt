@@ -1,6 +1,6 @@
 -- How a run of events ended.
 use Rattle.std.proofs.Common.{◌≡◌, ℕ, ◌≤◌, ◌==◌, Bool, true, false, List, [], Option}
-use Rattle.std.proofs.Common.{Some, None, Result, Ok, Err, if◌then◌else◌, length, arith, refl, sym, ◌∙◌, ap, subst}
+use Rattle.std.proofs.Common.{Some, None, Result, Ok, Err, IfOk, if◌then◌else◌, length, arith, refl, sym, ◌∙◌, ap, subst}
 use Rattle.std.proofs.lemmas.Bool.Decides.{nat_tests}
 use Rattle.t7_base.specs.Outside.{Grew}
 use Rattle.t7_base.proofs.Grown.{grew_as, grew_nothing}
@@ -23,7 +23,7 @@ use Rattle.t7_outcome.specs.Ending.{Ended}
 use Rattle.t7_outcome.specs.Outcome.{Ends}
 use Rattle.t7_serve.specs.Clauses.{CastAt, OfTakings, SentAt, TakesUpTo}
 use Rattle.t7_serve.specs.Served.{Taking, done_by, end_of, ends_too_long, served, takings}
-use Rattle.t7_serve.specs.Servers.{IsReady, Serves}
+use Rattle.t7_serve.specs.Servers.{Came, IsReady, Serves}
 use Rattle.t7_serve.specs.Venues.{Venue}
 use Rattle.t7_serve.proofs.Sent.{begins_all, front_all}
 
@@ -47,6 +47,11 @@ of_takings_moments e e1 g g1 P all =
     (λ items at.
     grew_as g g1 (λ (moments : List ℕ). (length moments ≡ length items) × P (takings items moments)) (λ (moments : List ℕ). length moments ≡ length items) at
     (λ moments both. both.0))
+
+-- what holds of an end that is none of a stop
+pub if_ok_as : {T : Type 0} (P Q : T → Type 0) (r : Result T Stop) → IfOk r P → ((x : T) → P x → Q x) → IfOk r Q
+if_ok_as P Q (Ok done) all to = to done all
+if_ok_as P Q (Err stop) all to = tt
 
 -- no event was taken
 pub of_takings_none : (e e1 : Option (List LinkItem)) (g : Option (List ℕ)) (P : List Taking → Type 0) → e1 ≡ e → P [] → OfTakings e e1 g g P
@@ -79,11 +84,15 @@ cast_none terms e e1 g c c1 end same also =
     of_takings_none e e1 g (λ (ts : List Taking). Grew c c1 (CastAt (done_by terms ts).cast end)) same
     (subst (λ (o : Option (List Casting)). Grew c o (CastAt [] end)) (sym also) (grew_nothing c (CastAt [] end) (cast_nothing end)))
 
--- what a run of events came to
-pub record Came (terms : Terms) (count : ℕ) (end : Ended) (s s1 : Option (List LinkSent)) (c c1 : Option (List Casting)) (ts : List Taking) : Type 0 where
-  pub ends : Ends (served {Moment = Unit {0}} terms count ts) end
-  pub sent : Grew s s1 (SentAt (done_by terms ts).sent end)
-  pub cast : Grew c c1 (CastAt (done_by terms ts).cast end)
+-- memory was wanting before the first event
+pub came_none : (terms : Terms) (count : ℕ) (e : Option (List LinkItem)) (g : Option (List ℕ)) (s : Option (List LinkSent)) (c : Option (List Casting))
+    → OfTakings e e g g (Came terms count (Err Memory) s s c c)
+came_none terms count e g s c =
+    of_takings_none e e g (Came terms count (Err Memory) s s c c) refl (record {
+      ends = tt;
+      sent = grew_nothing s (SentAt [] (let bad : Ended = Err Memory in bad)) (sent_nothing (Err Memory));
+      cast = grew_nothing c (CastAt [] (let bad : Ended = Err Memory in bad)) (cast_nothing (Err Memory));
+    })
 
 module _ (terms : Terms) (count : ℕ) (now : Venue) (s s1 : Option (List LinkSent)) (c c1 : Option (List Casting)) (ts : List Taking) where
   long_end : ends_too_long terms ts ≡ true → end_of terms count ts ≡ Some (Err TooLong)
@@ -147,38 +156,45 @@ acts_done {T} terms count now s s1 c c1 r x ts is of serves ready few accepted r
     }
 
 -- the same of all that the link and the clock tell
-module _ (terms : Terms) (count : ℕ) (now : Venue) (e0 e e1 : Option (List LinkItem)) (g g1 : Option (List ℕ)) (s0 s s1 : Option (List LinkSent))
-    (c0 c c1 : Option (List Casting))
-    (events : e ≡ e0) (sent : s ≡ s0) (cast : c ≡ c0) where
-  from_start : (end : Ended) → OfTakings e e1 g g1 (Came terms count end s s1 c c1) → OfTakings e0 e1 g g1 (Came terms count end s0 s1 c0 c1)
-  from_start end all =
-      subst (λ (o : Option (List LinkItem)). OfTakings o e1 g g1 (Came terms count end s0 s1 c0 c1)) events
+module _ (terms : Terms) (count : ℕ) (now : Venue) (e e1 : Option (List LinkItem)) (g g1 : Option (List ℕ)) (s s1 : Option (List LinkSent))
+    (c c1 : Option (List Casting)) where
+  pub told_stopped : {T : Type 0} (r : Result T Stop) (end : Ended) (stop : Stop) → r ≡ Err stop → end ≡ Err stop
+      → OfTakings e e1 g g1 (Serves terms count now s s1 c c1 r)
+      → OfTakings e e1 g g1 (Came terms count end s s1 c c1)
+  told_stopped r end stop is ended all =
+      of_takings_as e e1 g g1 (Serves terms count now s s1 c c1 r) (Came terms count end s s1 c c1) all
+      (λ ts serves. came_stopped terms count now s s1 c c1 ts r end stop is ended serves)
+
+  pub told_done : {T : Type 0} (r : Result T Stop) (x : T) (n : ℕ) → r ≡ Ok x → n ≡ last_of now.day → OfTakings e e1 g g1 (Serves terms count now s s1 c c1 r)
+      → OfTakings e e1 g g1 (Came terms count (Ok (End n)) s s1 c c1)
+  told_done r x n is last all =
+      of_takings_as e e1 g g1 (Serves terms count now s s1 c c1 r) (Came terms count (Ok (End n)) s s1 c c1) all
+      (λ ts serves. came_done terms count now s s1 c c1 ts r x n is last serves)
+
+pub told_acts : {T : Type 0} (terms : Terms) (count : ℕ) (now : Venue) (e e1 : Option (List LinkItem)) (g g1 : Option (List ℕ))
+    (s s1 : Option (List LinkSent)) (c c1 : Option (List Casting))
+    (r : Result T Stop) (x : T) → r ≡ Ok x → ((ts : List Taking) → OfRun terms ts) → IsReady now → now.events ≤ 1_000_000_000
+    → AreAccepted now.day.setting.listing now.day.state.core.accepted → AreRanged now.day.state.core.accepted
+    → OfTakings e e1 g g1 (Serves terms count now s s1 c c1 r)
+    → OfTakings e e1 g g1 (λ ts. AreActs terms.listing (done_by terms ts).acts)
+told_acts terms count now e e1 g g1 s s1 c c1 r x is of ready few accepted ranged all =
+    of_takings_as e e1 g g1 (Serves terms count now s s1 c c1 r) (λ (ts : List Taking). AreActs terms.listing (done_by terms ts).acts) all
+    (λ ts serves. acts_done terms count now s s1 c c1 r x ts is (of ts) serves ready few accepted ranged)
+
+-- the same behind calls that took no event, and neither sent nor cast anything
+module _ (e0 e e1 : Option (List LinkItem)) (events : e ≡ e0) where
+  pub events_from : (g g1 : Option (List ℕ)) (P : List Taking → Type 0) → OfTakings e e1 g g1 P → OfTakings e0 e1 g g1 P
+  events_from g g1 P all = subst (λ (o : Option (List LinkItem)). OfTakings o e1 g g1 P) events all
+
+  pub came_from : (terms : Terms) (count : ℕ) (g g1 : Option (List ℕ)) (s0 s s1 : Option (List LinkSent)) (c0 c c1 : Option (List Casting)) (end : Ended)
+      → s ≡ s0 → c ≡ c0 → OfTakings e e1 g g1 (Came terms count end s s1 c c1) → OfTakings e0 e1 g g1 (Came terms count end s0 s1 c0 c1)
+  came_from terms count g g1 s0 s s1 c0 c c1 end sent cast all =
+      events_from g g1 (Came terms count end s0 s1 c0 c1)
       (subst (λ (o : Option (List LinkSent)). OfTakings e e1 g g1 (Came terms count end o s1 c0 c1)) sent
       (subst (λ (o : Option (List Casting)). OfTakings e e1 g g1 (Came terms count end s s1 o c1)) cast all))
 
-  pub told_stopped : {T : Type 0} (r : Result T Stop) (end : Ended) (stop : Stop) → r ≡ Err stop → end ≡ Err stop
-      → OfTakings e e1 g g1 (Serves terms count now s s1 c c1 r)
-      → OfTakings e0 e1 g g1 (Came terms count end s0 s1 c0 c1)
-  told_stopped r end stop is ended all =
-      from_start end (of_takings_as e e1 g g1 (Serves terms count now s s1 c c1 r) (Came terms count end s s1 c c1) all
-      (λ ts serves. came_stopped terms count now s s1 c c1 ts r end stop is ended serves))
-
-  pub told_done : {T : Type 0} (r : Result T Stop) (x : T) (n : ℕ) → r ≡ Ok x → n ≡ last_of now.day → OfTakings e e1 g g1 (Serves terms count now s s1 c c1 r)
-      → OfTakings e0 e1 g g1 (Came terms count (Ok (End n)) s0 s1 c0 c1)
-  told_done r x n is last all =
-      from_start (Ok (End n)) (of_takings_as e e1 g g1 (Serves terms count now s s1 c c1 r) (Came terms count (Ok (End n)) s s1 c c1) all
-      (λ ts serves. came_done terms count now s s1 c c1 ts r x n is last serves))
-
-pub told_acts : {T : Type 0} (terms : Terms) (count : ℕ) (now : Venue) (e0 e e1 : Option (List LinkItem)) (g g1 : Option (List ℕ))
-    (s s1 : Option (List LinkSent)) (c c1 : Option (List Casting))
-    (r : Result T Stop) (x : T) → e ≡ e0 → r ≡ Ok x → ((ts : List Taking) → OfRun terms ts) → IsReady now → now.events ≤ 1_000_000_000
-    → AreAccepted now.day.setting.listing now.day.state.core.accepted → AreRanged now.day.state.core.accepted
-    → OfTakings e e1 g g1 (Serves terms count now s s1 c c1 r)
-    → OfTakings e0 e1 g g1 (λ ts. AreActs terms.listing (done_by terms ts).acts)
-told_acts terms count now e0 e e1 g g1 s s1 c c1 r x events is of ready few accepted ranged all =
-    subst (λ (o : Option (List LinkItem)). OfTakings o e1 g g1 (λ ts. AreActs terms.listing (done_by terms ts).acts)) events
-    (of_takings_as e e1 g g1 (Serves terms count now s s1 c c1 r) (λ (ts : List Taking). AreActs terms.listing (done_by terms ts).acts) all
-    (λ ts serves. acts_done terms count now s s1 c c1 r x ts is (of ts) serves ready few accepted ranged))
+  pub upto_from : {U : Type 0} (count : ℕ) (end : Result U Stop) → Grew e e1 (TakesUpTo count end) → Grew e0 e1 (TakesUpTo count end)
+  upto_from count end some = subst (λ (o : Option (List LinkItem)). Grew o e1 (TakesUpTo count end)) events some
 
 -- the parts of it
 module _ (terms : Terms) (count : ℕ) (end : Ended) (e e1 : Option (List LinkItem)) (g g1 : Option (List ℕ)) (s s1 : Option (List LinkSent))
@@ -204,18 +220,15 @@ upto_as : (T U : Type 0) (count : ℕ) (stop : Stop) (items : List LinkItem) →
     → TakesUpTo count (let bad : Result U Stop = Err stop in bad) items
 upto_as T U count stop items few = few
 
-pub upto_stopped : {T U : Type 0} (e0 e e1 : Option (List LinkItem)) (count : ℕ) (r : Result T Stop) (end : Result U Stop) (stop : Stop) → e ≡ e0
-    → r ≡ Err stop → end ≡ Err stop
-    → Grew e e1 (TakesUpTo count r) → Grew e0 e1 (TakesUpTo count end)
-upto_stopped {T} {U} e0 e e1 count r end stop same is ended some =
-    subst (λ (o : Option (List LinkItem)). Grew o e1 (TakesUpTo count end)) same
-    (grew_as e e1 (TakesUpTo count r) (TakesUpTo count end) some
+pub upto_stopped : {T U : Type 0} (e e1 : Option (List LinkItem)) (count : ℕ) (r : Result T Stop) (end : Result U Stop) (stop : Stop)
+    → r ≡ Err stop → end ≡ Err stop → Grew e e1 (TakesUpTo count r) → Grew e e1 (TakesUpTo count end)
+upto_stopped {T} {U} e e1 count r end stop is ended some =
+    grew_as e e1 (TakesUpTo count r) (TakesUpTo count end) some
     (λ items few. subst (λ (a : Result U Stop). TakesUpTo count a items) (sym ended)
-    (upto_as T U count stop items (subst (λ (a : Result T Stop). TakesUpTo count a items) is few))))
+    (upto_as T U count stop items (subst (λ (a : Result T Stop). TakesUpTo count a items) is few)))
 
-pub upto_done : {T U : Type 0} (e0 e e1 : Option (List LinkItem)) (count : ℕ) (r : Result T Stop) (x : T) (y : U) → e ≡ e0 → r ≡ Ok x
-    → Grew e e1 (TakesUpTo count r) → Grew e0 e1 (TakesUpTo count (let done : Result U Stop = Ok y in done))
-upto_done {T} {U} e0 e e1 count r x y same is some =
-    subst (λ (o : Option (List LinkItem)). Grew o e1 (TakesUpTo count (let done : Result U Stop = Ok y in done))) same
-    (grew_as e e1 (TakesUpTo count r) (λ (items : List LinkItem). length items ≡ count) some
-    (λ items all. subst (λ (a : Result T Stop). TakesUpTo count a items) is all))
+pub upto_done : {T U : Type 0} (e e1 : Option (List LinkItem)) (count : ℕ) (r : Result T Stop) (x : T) (y : U) → r ≡ Ok x
+    → Grew e e1 (TakesUpTo count r) → Grew e e1 (TakesUpTo count (let done : Result U Stop = Ok y in done))
+upto_done {T} {U} e e1 count r x y is some =
+    grew_as e e1 (TakesUpTo count r) (λ (items : List LinkItem). length items ≡ count) some
+    (λ items all. subst (λ (a : Result T Stop). TakesUpTo count a items) is all)

@@ -14,8 +14,11 @@ use Rattle.t7_net.specs.Lines.{Casting}
 use Rattle.t7_net.specs.Links.{LinkSent}
 use Rattle.t7_outcome.specs.declared.ending.Stop.{Stop}
 use Rattle.t7_outcome.specs.declared.ending.Stop.TheVariants.{Memory, NetFault, TooLong}
+use Rattle.t7_outcome.specs.Ending.{Ended}
+use Rattle.t7_outcome.specs.Outcome.{Ends}
+use Rattle.t7_serve.specs.Clauses.{CastAt, SentAt}
 use Rattle.t7_serve.specs.Fronts.{SentFront}
-use Rattle.t7_serve.specs.Served.{Taking, done_by, ends_too_long}
+use Rattle.t7_serve.specs.Served.{Taking, done_by, ends_too_long, served}
 use Rattle.t7_serve.specs.Turns.{does, due_bytes, is_too_long, on_both, sending, without_closed}
 use Rattle.t7_serve.specs.Venues.{Turn, Venue}
 
@@ -137,6 +140,12 @@ Serves terms count now sent_before sent_now cast_before cast_now (Err TooLong) t
     (length takings ≤ count) × (ends_too_long terms takings ≡ true)
     × Done (done_by terms takings) (done_by terms takings).venue sent_before sent_now cast_before cast_now
 Serves terms count now sent_before sent_now cast_before cast_now (Err stop) takings = ⊥
+
+-- what a run of events came to
+pub record Came (terms : Terms) (count : ℕ) (end : Ended) (s s1 : Option (List LinkSent)) (c c1 : Option (List Casting)) (ts : List Taking) : Type 0 where
+  pub ends : Ends (served {Moment = Unit {0}} terms count ts) end
+  pub sent : Grew s s1 (SentAt (done_by terms ts).sent end)
+  pub cast : Grew c c1 (CastAt (done_by terms ts).cast end)
 
 -- the table and the product of an exchange
 abbrev pub terms_by : List Layout → Listing → Terms

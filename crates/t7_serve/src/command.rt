@@ -8,7 +8,8 @@ ghost use Rattle.t7_net.specs.Links.{Listened};
 ghost use Rattle.t7_outcome.specs.Outcome.{Ends};
 ghost use Rattle.t7_serve.specs.Clauses.{AsksFor, CastAt, ListensAt, OfServe, OfTakings, SentAt, TakesUpTo, binds_of};
 ghost use Rattle.t7_serve.specs.Served.{done_by, served};
-ghost use Rattle.t7_serve.specs.Servers.{terms_by};
+ghost use Rattle.t7_serve.specs.Servers.{Came, IsReady, terms_by};
+ghost use Rattle.t7_serve.specs.Venues.{new_venue};
 
 use crate::laws::casts_are_those_of_the_acts;
 use crate::server::{Server, take_events};
@@ -82,10 +83,65 @@ pub fn serve<L: Link, D: Lines, C: Clock>(
 {
     listen(addresses.listen, link)?;
     bind_all(addresses, lines)?;
+    host(alloc, table, product, count, link, lines, clock)
+}
+
+// Takes the events with an exchange at the beginning of its day.
+fn host<L: Link, D: Lines, C: Clock>(
+    alloc: Global,
+    table: &Table,
+    product: &Product,
+    count: u32,
+    link: &mut L,
+    lines: &mut D,
+    clock: &mut C,
+) -> Result<Finish, Stop>
+    requires { count ≤ 1_000_000_000 }
+    ensures came { OfTakings (L.events link.old) (L.events link.new) (C.given clock.old) (C.given clock.new)
+        (Came (terms_by table.now product.now) count result (L.sent link.old) (L.sent link.new) (D.cast lines.old) (D.cast lines.new)) }
+    ensures acts { IfOk result (λ finish. OfTakings (L.events link.old) (L.events link.new) (C.given clock.old) (C.given clock.new)
+        (λ takings. AreActs product.now (done_by (terms_by table.now product.now) takings).acts)) }
+    ensures events { Grew (L.events link.old) (L.events link.new) (TakesUpTo count result) }
+    ensures only { IfErr result OfServe }
+    ensures listens { L.asked link.new ≡ L.asked link.old }
+    ensures binds { D.asked lines.new ≡ D.asked lines.old }
+    ensures taken { D.taken lines.new ≡ D.taken lines.old }
+    ensures link_count { L.faults link.old ≤ L.faults link.new }
+    ensures lines_count { D.faults lines.old ≤ D.faults lines.new }
+    ensures net_fault { result ≡ Err Stop.NetFault → Rose (L.faults link.old) (L.faults link.new) ⊎ Rose (D.faults lines.old) (D.faults lines.new) }
+{
     let Ok(mut server) = Server::new(alloc, table, product) else {
         return Err(Stop::Memory);
     };
-    take_events(&mut server, count, link, lines, clock)?;
+    run(&mut server, count, link, lines, clock)
+}
+
+// Takes the events, and tells the number of the last message.
+fn run<L: Link, D: Lines, C: Clock>(
+    server: &mut Server<'_>,
+    count: u32,
+    link: &mut L,
+    lines: &mut D,
+    clock: &mut C,
+) -> Result<Finish, Stop>
+    requires new { IsReady server.old }
+    requires none { server.old.events ≡ 0 }
+    requires few { count ≤ 1_000_000_000 }
+    ensures came { (terms : Terms) → server.old ≡ new_venue terms → OfTakings (L.events link.old) (L.events link.new) (C.given clock.old) (C.given clock.new)
+        (Came terms count result (L.sent link.old) (L.sent link.new) (D.cast lines.old) (D.cast lines.new)) }
+    ensures acts { IfOk result (λ finish. (terms : Terms) → server.old ≡ new_venue terms
+        → OfTakings (L.events link.old) (L.events link.new) (C.given clock.old) (C.given clock.new)
+        (λ takings. AreActs terms.listing (done_by terms takings).acts)) }
+    ensures events { Grew (L.events link.old) (L.events link.new) (TakesUpTo count result) }
+    ensures only { IfErr result OfServe }
+    ensures listens { L.asked link.new ≡ L.asked link.old }
+    ensures binds { D.asked lines.new ≡ D.asked lines.old }
+    ensures taken { D.taken lines.new ≡ D.taken lines.old }
+    ensures link_count { L.faults link.old ≤ L.faults link.new }
+    ensures lines_count { D.faults lines.old ≤ D.faults lines.new }
+    ensures net_fault { result ≡ Err Stop.NetFault → Rose (L.faults link.old) (L.faults link.new) ⊎ Rose (D.faults lines.old) (D.faults lines.new) }
+{
+    take_events(server, count, link, lines, clock)?;
     casts_are_those_of_the_acts();
     server.is_sound();
     Ok(Finish::End(server.messages()))
