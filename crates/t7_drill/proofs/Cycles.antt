@@ -8,7 +8,8 @@ use Rattle.t7_book.specs.Orders.{empty_book, roster_of}
 use Rattle.t7_book.specs.Trace.{book_left, market, trace}
 use Rattle.t7_feed.specs.Arrivals.{Terms}
 use Rattle.t7_feed.specs.Cycles.{cycle_of}
-use Rattle.t7_feed.specs.Sending.{book_at, cycle_now, last_of, parts_of, snap_size}
+use Rattle.t7_eobi.specs.Sizes.{snap_size}
+use Rattle.t7_feed.specs.Sending.{book_at, cycle_now, last_of, parts_of}
 use Rattle.t7_greedy.specs.Cuts.{cut, cut_from}
 use Rattle.t7_packets.specs.Packing.{room_in}
 use Rattle.t7_drill.proofs.Fitting.{body_long}

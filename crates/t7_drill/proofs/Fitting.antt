@@ -14,7 +14,8 @@ use Rattle.t7_greedy.specs.Cuts.{cut, cut_from}
 use Rattle.t7_greedy.proofs.CutFacts.{at_most}
 use Rattle.t7_entry.specs.State.{Setting}
 use Rattle.t7_feed.specs.Cycles.{Section, body_of, cycle_of, item_of}
-use Rattle.t7_feed.specs.Sending.{cycle_at, entry_of, parts_of, snap_size}
+use Rattle.t7_eobi.specs.Sizes.{snap_size}
+use Rattle.t7_feed.specs.Sending.{cycle_at, entry_of, parts_of}
 use Rattle.t7_feed.proofs.Growth.{compare, le_or}
 use Rattle.t7_packets.specs.Packing.{room_in}
 use Rattle.t7_drill.specs.Drilled.{IsRoomy}

@@ -28,7 +28,8 @@ use Rattle.t7_eobi.specs.Said.{ReadsLive}
 use Rattle.t7_greedy.specs.Cuts.{cut_from, joined}
 use Rattle.t7_greedy.proofs.CutFacts.{at_most, cut_whole}
 use Rattle.t7_packets.specs.Datagrams.{live_datagrams, live_from, shipped}
-use Rattle.t7_packets.specs.Packing.{Datagram, datagram_bytes, message_size, numbered, room_in}
+use Rattle.t7_eobi.specs.Sizes.{message_size, snap_size}
+use Rattle.t7_packets.specs.Packing.{Datagram, datagram_bytes, numbered, room_in}
 use Rattle.t7_feed.specs.declared.State.{State}
 use Rattle.t7_feed.specs.declared.State.TheVariants.{Miss, Refused, Sync, Wait}
 use Rattle.t7_feed.specs.Arrivals.{Arrival, Came, Delivery, EachPrefix, Packet, PacketWindow, Terms, Told, arrivals, channel_of, first, greatest_named, heard}
@@ -36,7 +37,7 @@ use Rattle.t7_feed.specs.Arrivals.{highest_packet, known, or_else, reading_of, t
 use Rattle.t7_feed.specs.Cycles.{Section, Stand, body_of}
 use Rattle.t7_feed.specs.Report.{CoversAll, IsFrom, IsInSync, IsSupportedBook, Report, Shows}
 use Rattle.t7_feed.specs.Sending.{AreSayable, AreSent, Genuine, at_number, book_at, cycle_at, cycle_now, first_and, last_of, packet_sent, parts_of, sent_on}
-use Rattle.t7_feed.specs.Sending.{snap_datagrams, snap_size, snaps_from, under_way}
+use Rattle.t7_feed.specs.Sending.{snap_datagrams, snaps_from, under_way}
 use Rattle.t7_feed.specs.Whole.{Supported, Whole}
 use Rattle.t7_feed.proofs.Genuine.{genuine_sent}
 use Rattle.t7_feed.proofs.Growth.{compare}

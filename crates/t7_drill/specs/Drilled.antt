@@ -9,7 +9,8 @@ use Rattle.t7_eobi.specs.declared.walks.Snap.{Snap}
 use Rattle.t7_exchange.specs.Sending.{terms_of}
 use Rattle.t7_feed.specs.declared.State.TheVariants.{Sync}
 use Rattle.t7_feed.specs.Report.{Report}
-use Rattle.t7_feed.specs.Sending.{AreActs, Genuine, cycle_now, snap_size}
+use Rattle.t7_eobi.specs.Sizes.{snap_size}
+use Rattle.t7_feed.specs.Sending.{AreActs, Genuine, cycle_now}
 use Rattle.t7_outcome.specs.declared.ending.Finish.{Finish}
 use Rattle.t7_outcome.specs.declared.ending.Finish.TheVariants.{End}
 use Rattle.t7_outcome.specs.declared.ending.Stop.{Stop}

@@ -7,7 +7,8 @@ ghost use Rattle.t7_eti.specs.Saying.{EachOrdinary, request_fields};
 ghost use Rattle.t7_drill.specs.Asking as asking;
 ghost use Rattle.t7_book.specs.Trace.{AreAccepted};
 ghost use Rattle.t7_drill.specs.Entering.{accepted_in, day_asked, some_reject};
-ghost use Rattle.t7_entry.specs.Days.{last_of};
+ghost use Rattle.t7_entry.specs.Days.{day_after, last_of};
+ghost use Rattle.t7_entry.specs.Events.{Opened};
 ghost use Rattle.t7_exchange.specs.Sending.{terms_of};
 ghost use Rattle.t7_feed.specs.Arrivals.{AreTerms};
 ghost use Rattle.t7_feed.specs.Sending.{AreRanged};
@@ -63,6 +64,29 @@ impl<'t> Model for Drill<'t> {
     ghost view = { kit_of };
 }
 
+// Opens both connections.
+fn open_both(exchange: &mut Exchange<'_>) -> Result<(), AllocError>
+    ensures { OnOk result (exchange.new ≡ day_after (day_after exchange.old (Opened 1)) (Opened 2)) }
+{
+    open(exchange, FIRST)?;
+    open(exchange, SECOND)
+}
+
+// An exchange at the beginning of its day, with both connections open.
+fn begun<'t>(
+    alloc: Global,
+    table: &'t Table,
+    product: &'t Product,
+) -> Result<Exchange<'t>, AllocError>
+    ensures { IfOk result (λ exchange. exchange ≡ world.opened_day (record { layouts = table.now; listing = product.now })) }
+{
+    let mut exchange = Exchange::new(alloc, table, product)?;
+    match open_both(&mut exchange) {
+        Ok(()) => Ok(exchange),
+        Err(_) => Err(AllocError),
+    }
+}
+
 impl<'t> Drill<'t> {
     /// Both connections are open, and nothing was asked. An error comes only where memory is wanting.
     pub fn new(
@@ -74,9 +98,7 @@ impl<'t> Drill<'t> {
         ensures stands { IfOk result (λ drill. Stands (world.new_world (record { layouts = table.now; listing = product.now }) seed) drill) }
         ensures within { IfOk result (Within 0) }
     {
-        let mut exchange = Exchange::new(alloc, table, product)?;
-        open(&mut exchange, FIRST)?;
-        open(&mut exchange, SECOND)?;
+        let exchange = begun(alloc, table, product)?;
         Ok(Drill {
             alloc,
             table,
