@@ -8,6 +8,7 @@ pub mod Performing
 pub mod Reading
 pub mod Renaming
 pub mod Replaying
+pub mod Roomy
 pub mod Sending
 pub mod Serving
 pub mod Taken

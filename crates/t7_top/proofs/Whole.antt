@@ -3,8 +3,6 @@ use Rattle.std.proofs.Common.{◌≡◌, ◌⊎◌, ℕ, List, [], ◌∷◌, Bo
 use Rattle.std.specs.Option.{option_map}
 use Rattle.t7_base.specs.Outside.{Rose}
 use Rattle.t7_base.specs.ProductFile.{ProductFault, fault_of as product_fault_of, product_of}
-use Rattle.t7_drill.specs.declared.run.TheConstants.{PRODUCT}
-use Rattle.t7_drill.specs.Worlds.{World as Drilled, drilled}
 use Rattle.t7_client.specs.Hearing.{heard}
 use Rattle.t7_client.specs.Recovering.{Recovery, is_recovered}
 use Rattle.t7_entry.specs.Days.{last_of}
@@ -32,16 +30,15 @@ use Rattle.t7_replay.specs.Reports as script
 use Rattle.t7_replay.specs.Script.{lines_of}
 use Rattle.t7_replay.specs.Steps.{played, step_at}
 use Rattle.t7_replay.specs.World.{World, new_world}
-use Rattle.t7_sample.specs.declared.TheConstants.{SAMPLE}
 use Rattle.t7_serve.specs.Served.{done_by, end_of, ends_too_long, takings}
 use Rattle.t7_top.specs.Check.{listing}
-use Rattle.t7_top.specs.Exercise.{exercised, told_day}
+use Rattle.t7_top.specs.Exercise.{exercised}
 use Rattle.t7_top.specs.Jobs.{dialed_on, script_played, started, terms_of, traded, worked}
 use Rattle.t7_top.specs.Moments.{Moment}
 use Rattle.t7_top.specs.Network.{Network, Taken, Took, untaken}
 use Rattle.t7_top.specs.Outcomes.{outcome_of}
 use Rattle.t7_top.specs.Refusals.{checked, checked_product}
-use Rattle.t7_top.specs.Whole.{AreWhole, EachGoes, EndsJob, EndsWhole, IsComplete, IsWholeDrill, IsWholeJob, IsWholeScript, IsWholeTable}
+use Rattle.t7_top.specs.Whole.{AreWhole, EachGoes, EndsJob, EndsWhole, IsComplete, IsWholeJob, IsWholeScript, IsWholeTable}
 use Rattle.t7_top.specs.Words.{Command, Over, Check, Drill, Help, Version, Feeds, Job, Replay, Exchange, Member, Gather}
 use Rattle.t7_top.proofs.Taken.{took_as}
 
@@ -204,23 +201,15 @@ check_well table g answer whole is =
     own_answer (listing (table_of (records_of whole.rows))).end answer refl
     (sym (ap (option_map status_of) (behind_table table g whole (λ rows. listing (table_of (records_of rows))))) ∙ is)
 
-drill_well : (seed orders : ℕ) (answer : Status) → IsWholeDrill → option_map status_of (exercised SAMPLE.now PRODUCT.now seed orders).end ≡ Some answer → answer ≡ status.Done
-drill_well seed orders answer whole is =
-    well (fault_of (records_of SAMPLE.now)) (product_fault_of (records_of PRODUCT.now))
-    (drilled (record { layouts = table_of (records_of SAMPLE.now); listing = product_of (records_of PRODUCT.now) }) seed orders) whole.0 whole.1 is
-  where
-    well : (fault : Option TableFault) (other : Option ProductFault) (world : Drilled) → fault ≡ None → other ≡ None
-        → option_map status_of (checked fault (checked_product other (told_day world))).end ≡ Some answer → answer ≡ status.Done
-    well None None world valid sound is = own_answer (told_day world).end answer refl is
-    well None (Some fault) world valid sound is = let no : ⊥ = cc in absurd no
-    well (Some fault) other world valid sound is = let no : ⊥ = cc in absurd no
+drill_well : (seed orders : ℕ) (answer : Status) → option_map status_of (exercised seed orders).end ≡ Some answer → answer ≡ status.Done
+drill_well seed orders answer is = own_answer (exercised seed orders).end answer refl is
 
 own_well : (command : Option Command) (taken : Taken) (g : Given) (answer : Status) → IsComplete command g
     → option_map status_of (outcome_of command taken g).end ≡ Some answer → EndsWhole command answer
 own_well None taken g answer whole is = absurd whole
 own_well (Some (Over table product job)) taken g answer whole is = job_well table product job taken g answer whole is
 own_well (Some (Check table)) taken g answer whole is = inl (check_well table g answer whole is)
-own_well (Some (Drill seed orders)) taken g answer whole is = inl (drill_well seed orders answer whole is)
+own_well (Some (Drill seed orders)) taken g answer whole is = inl (drill_well seed orders answer is)
 own_well (Some Help) taken g answer whole is = inl (own_answer (Some (Ok Text)) answer refl is)
 own_well (Some Version) taken g answer whole is = inl (own_answer (Some (Ok Text)) answer refl is)
 

@@ -29,8 +29,6 @@ ChecksTable _ = ⊥
 -- the answers of `drill`
 abbrev pub Exercises : Status → Type 0
 Exercises status.Done = Unit {0}
-Exercises status.Layout = Unit {0}
-Exercises status.Product = Unit {0}
 Exercises status.WriteFault = Unit {0}
 Exercises status.Memory = Unit {0}
 Exercises _ = ⊥

@@ -1,9 +1,7 @@
 -- What the commands come to.
 use Rattle.std.specs.Prelude.{Option, None, Some}
-use Rattle.t7_drill.specs.declared.run.TheConstants.{PRODUCT}
 use Rattle.t7_outcome.specs.declared.ending.Stop.TheVariants.{Usage}
 use Rattle.t7_outcome.specs.Outcome.{Outcome, Given, stops}
-use Rattle.t7_sample.specs.declared.TheConstants.{SAMPLE}
 use Rattle.t7_top.specs.declared.text.TheConstants.{HELP, VERSION}
 use Rattle.t7_top.specs.Check.{listed}
 use Rattle.t7_top.specs.Exercise.{exercised}
@@ -18,6 +16,6 @@ abbrev pub outcome_of : Option Command → Taken → Given → Outcome Moment
 outcome_of None taken given = stops Usage
 outcome_of (Some (Over table product job)) taken given = worked table product job taken given
 outcome_of (Some (Check table)) taken given = listed table given
-outcome_of (Some (Drill seed orders)) taken given = exercised SAMPLE.now PRODUCT.now seed orders
+outcome_of (Some (Drill seed orders)) taken given = exercised seed orders
 outcome_of (Some Help) taken given = told HELP.now
 outcome_of (Some Version) taken given = told VERSION.now

@@ -1,7 +1,6 @@
 -- When the input of a command is whole, so that nothing but the outside and want of memory keeps it from its end.
 use Rattle.std.specs.Prelude.{◌≡◌, ◌⊎◌, ℕ, List, [], ◌∷◌, Option, None, Some, Ok}
 use Rattle.t7_base.specs.ProductFile.{fault_of as product_fault_of, product_of}
-use Rattle.t7_drill.specs.declared.run.TheConstants.{PRODUCT}
 use Rattle.t7_feed.specs.Arrivals.{Terms}
 use Rattle.t7_layout.specs.Faults.{fault_of}
 use Rattle.t7_layout.specs.Tables.{table_of}
@@ -13,7 +12,6 @@ use Rattle.t7_records.specs.Records.{records_of}
 use Rattle.t7_replay.specs.Script.{lines_of}
 use Rattle.t7_replay.specs.Steps.{step_at}
 use Rattle.t7_replay.specs.World.{World, new_world}
-use Rattle.t7_sample.specs.declared.TheConstants.{SAMPLE}
 use Rattle.t7_top.specs.Jobs.{terms_of}
 use Rattle.t7_top.specs.Words.{Command, Over, Check, Drill, Help, Version, Job, Replay, Exchange, Gather}
 
@@ -51,16 +49,12 @@ pub record AreWhole (table product : List ℕ) (job : Job) (held : Held) : Type 
   pub products : IsWholeProduct product held
   pub rest : IsWholeJob (terms_of (table_of (records_of tables.rows)) (product_of (records_of products.items))) job held
 
--- The table and the product of the drill are valid.
-abbrev pub IsWholeDrill : Type 0
-IsWholeDrill = (fault_of (records_of SAMPLE.now) ≡ None) × (product_fault_of (records_of PRODUCT.now) ≡ None)
-
 -- The words are the form of a command, whose files are whole.
 abbrev pub IsComplete : Option Command → Given → Type 0
 IsComplete None given = ⊥
 IsComplete (Some (Over table product job)) given = AreWhole table product job given.files
 IsComplete (Some (Check table)) given = IsWholeTable table given.files
-IsComplete (Some (Drill seed orders)) given = IsWholeDrill
+IsComplete (Some (Drill seed orders)) given = Unit {0}
 IsComplete (Some Help) given = Unit {0}
 IsComplete (Some Version) given = Unit {0}
 

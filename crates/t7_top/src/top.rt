@@ -20,10 +20,8 @@ use crate::text::{HELP, VERSION, tell};
 use crate::words::{Command, read_words};
 use std::alloc::Global;
 use t7_base::{Files, Sink};
-use t7_drill::PRODUCT;
 use t7_net::{Clock, Lines, Link};
 use t7_outcome::{Finish, Status, Stop, close};
-use t7_script::sample;
 
 /// Does what the words ask for, with these files, this network and this clock, and writes its lines to the sink.
 pub fn run<F: Files, S: Sink, L: Link, D: Lines, C: Clock>(
@@ -55,8 +53,10 @@ pub fn run<F: Files, S: Sink, L: Link, D: Lines, C: Clock>(
     // delivered to the member by the lines so far, while none of it was forged; and where the command `member` prints what its member shows, of the
     // datagrams received so far, for every exchange that sent them: the number that is shown is supported by datagrams that were received; the orders are,
     // one by one, those of the exchange's book after the message of that number; and the number is never below what a whole snapshot that came, with the
-    // messages behind it that came within the window, supports. The printed text as a whole is that of the command's outcome, in which these reports
-    // stand at their places, with its last line; a fault of the outside or want of memory cuts off its end.
+    // messages behind it that came within the window, supports. At each LIST of a script the printed list is a front of the responses that the exchange has
+    // stored by then for the client's session, so each stands once, in the order of their numbers; and RECOVERED stands only where it has as many as the exchange
+    // had stored when it wrote the last answer that the client read since its dial. The printed text as a whole is that of the command's outcome, in which these
+    // reports stand at their places, with its last line; a fault of the outside or want of memory cuts off its end.
     ensures headline { Took (command_of (map string_bytes words.now))
         (seen (L.asked link.old) (L.events link.old) (L.sent link.old) (D.asked lines.old) (D.taken lines.old) (D.cast lines.old) (C.given clock.old))
         (seen (L.asked link.new) (L.events link.new) (L.sent link.new) (D.asked lines.new) (D.taken lines.new) (D.cast lines.new) (C.given clock.new))
@@ -141,9 +141,7 @@ fn perform<F: Files, S: Sink, L: Link, D: Lines, C: Clock>(
             },
         ) => run_job(alloc, table, product, &job, files, sink, link, lines, clock),
         Some(Command::Check { table }) => run_check(alloc, table, files, sink),
-        Some(Command::Drill { seed, orders }) => {
-            exercise(alloc, sample(), PRODUCT.as_bytes(), seed, orders, sink)
-        }
+        Some(Command::Drill { seed, orders }) => { exercise(alloc, seed, orders, sink) }
         Some(Command::Help) => tell(HELP, sink),
         Some(Command::Version) => tell(VERSION, sink),
         None => Err(Stop::Usage),

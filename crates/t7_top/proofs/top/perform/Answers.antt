@@ -1,12 +1,10 @@
-use Rattle.std.proofs.Common.{rules, ◌≡◌, Some, map, string_bytes}
-use Rattle.t7_drill.specs.declared.run.TheConstants.{PRODUCT}
-use Rattle.t7_sample.specs.declared.TheConstants.{SAMPLE}
+use Rattle.std.proofs.Common.{rules, ◌≡◌, Some, map, refl, string_bytes}
+use Rattle.t7_drill.specs.Drilled.{OfDrill}
 use Rattle.t7_top.specs.declared.text.TheConstants.{HELP, VERSION}
-use Rattle.t7_top.specs.Exercise.{OfExercise, exercised}
+use Rattle.t7_top.specs.Exercise.{exercised}
 use Rattle.t7_top.specs.Meaning.{job_meant}
 use Rattle.t7_top.specs.Text.{told}
 use Rattle.t7_top.specs.Words.{Drill, Help, Over, Version, command_of}
-use Rattle.t7_top.proofs.Exercising.{drill_sink, exercised_names}
 use Rattle.t7_top.proofs.Performing.{files_said, no_read, sends_none, sent_said, sink_said}
 use Rattle.t7_top.proofs.Reading.{files_none, sink_plain}
 use Rattle.t7_top.proofs.Telling.{text_files}
@@ -26,17 +24,14 @@ pub returns-in-Some-Drill-clause-files : goal.returns-in-Some-Drill-clause-files
 returns-in-Some-Drill-clause-files g c =
     let is : command_of (map string_bytes c.args.words.now) ≡ Some (Drill c.in-Some-Drill.seed c.in-Some-Drill.orders) = search rules in
     files_said _ _ is c.exercise.result _ _ _ _ _
-    (files_none _ _ (λ given. exercised SAMPLE.now PRODUCT.now c.in-Some-Drill.seed c.in-Some-Drill.orders) c.exercise.result _
-    (λ given. exercised_names SAMPLE.now PRODUCT.now c.in-Some-Drill.seed c.in-Some-Drill.orders)
-    (no_read OfExercise c.exercise.result (λ none. none) c.exercise.ensures.only))
+    (files_none _ _ (λ given. exercised c.in-Some-Drill.seed c.in-Some-Drill.orders) c.exercise.result _ (λ given. refl)
+    (no_read OfDrill c.exercise.result (λ none. none) c.exercise.ensures.only))
 
 pub returns-in-Some-Drill-clause-sink : goal.returns-in-Some-Drill-clause-sink
 returns-in-Some-Drill-clause-sink g c =
     let is : command_of (map string_bytes c.args.words.now) ≡ Some (Drill c.in-Some-Drill.seed c.in-Some-Drill.orders) = search rules in
-    let same : c.sample.result.now ≡ SAMPLE.now = search rules in
-    let like : c.as_bytes.result.now ≡ PRODUCT.now = search rules in
     sink_said _ _ is c.exercise.result _ _ _ _ _ _ _
-    (drill_sink _ c.sample.result.now c.as_bytes.result.now SAMPLE.now PRODUCT.now c.in-Some-Drill.seed c.in-Some-Drill.orders c.exercise.result _ _ _ _ same like
+    (sink_plain _ (exercised c.in-Some-Drill.seed c.in-Some-Drill.orders) c.exercise.result _ _ _ _
     c.exercise.ensures.end c.exercise.ensures.written c.exercise.ensures.count c.exercise.ensures.write_fault)
 
 pub returns-in-Some-Help-clause-files : goal.returns-in-Some-Help-clause-files
