@@ -5,6 +5,7 @@ mod day;
 mod member;
 mod packet;
 mod table;
+mod venue;
 
 use book::Book;
 use day::{Deliveries, day};
@@ -12,6 +13,7 @@ use member::{Feed, Member, Windows};
 use packet::{Live, Message, Order, Packet, Previous, Trade};
 use std::time::{Duration, Instant};
 use table::{Channel, Table};
+use venue::{Command, Venue};
 
 unsafe extern "C" {
     fn t7_bench_datagrams(
@@ -26,6 +28,13 @@ unsafe extern "C" {
     ) -> u64;
 
     fn t7_bench_book(
+        product: *const u8,
+        product_length: usize,
+        numbers: *const i64,
+        numbers_length: usize,
+    ) -> u64;
+
+    fn t7_bench_orders(
         product: *const u8,
         product_length: usize,
         numbers: *const i64,
@@ -50,9 +59,13 @@ const ADDS: usize = 8;
 const SIZE: usize = 16 + ADDS * 48;
 const DATAGRAMS: usize = 256;
 const TURNS: u32 = 400;
-const ORDERS: usize = 20_000;
 const CALLS: usize = 100_000;
 const NUMBERS: usize = 9;
+const COMMAND_NUMBERS: usize = 6;
+/// Orders of a book on which the calls are timed.
+const SIZES: [usize; 2] = [200, 20_000];
+/// The same of an exchange's book, which takes at most 10,000 orders of one security.
+const VENUE_SIZES: [usize; 2] = [200, 18_000];
 const RUNS: usize = 7;
 const WINDOWS: Windows = Windows {
     messages: 16_384,
@@ -191,13 +204,11 @@ fn drawn(draw: &mut Draw, stamp: u64) -> Order {
 }
 
 /// Messages of nine numbers: so many new orders, and then in turn a deletion, a new order, a change and an execution in part.
-fn messages() -> Vec<i64> {
+fn messages(count: usize) -> Vec<i64> {
     let mut draw = Draw(2);
-    let mut orders: Vec<Order> = (0..ORDERS)
-        .map(|k| drawn(&mut draw, k as u64 + 1))
-        .collect();
+    let mut orders: Vec<Order> = (0..count).map(|k| drawn(&mut draw, k as u64 + 1)).collect();
     let mut rows: Vec<[i64; NUMBERS]> = orders.iter().map(|order| row(1, order, NONE)).collect();
-    let mut stamp = ORDERS as u64;
+    let mut stamp = count as u64;
     for call in 0..CALLS {
         let at = draw.below(orders.len() as u64) as usize;
         stamp += 1;
@@ -424,20 +435,161 @@ fn compare_datagrams(table: &str) {
 }
 
 fn compare_books(product: &str) {
-    let numbers = messages();
-    let before = &numbers[..ORDERS * NUMBERS];
-    compare(
-        "messages on a book of 20,000 orders",
-        CALLS as f64,
-        3,
-        || {
-            beyond(
-                || proved_book(product, &numbers),
-                || proved_book(product, before),
-            )
+    for orders in SIZES {
+        let numbers = messages(orders);
+        let before = &numbers[..orders * NUMBERS];
+        compare(
+            &format!("messages on a member's book of {orders} orders"),
+            CALLS as f64,
+            3,
+            || {
+                beyond(
+                    || proved_book(product, &numbers),
+                    || proved_book(product, before),
+                )
+            },
+            || beyond(|| plain_book(&numbers), || plain_book(before)),
+        );
+    }
+}
+
+fn resting(draw: &mut Draw, moment: i64) -> [i64; COMMAND_NUMBERS] {
+    let buys = draw.below(2) == 0;
+    let price = (if buys { 9000 } else { 10_100 }) + draw.below(1000) as i64;
+    let security = SECURITIES[draw.below(2) as usize];
+    let qty = 1000 + draw.below(1000) as i64;
+    [1, moment, security, if buys { 1 } else { 2 }, price, qty]
+}
+
+// An order that trades with the best ones of the other side.
+fn crossing(draw: &mut Draw, moment: i64) -> [i64; COMMAND_NUMBERS] {
+    let (side, price) = if draw.below(2) == 0 {
+        (1, 20_000)
+    } else {
+        (2, 1)
+    };
+    let security = SECURITIES[draw.below(2) as usize];
+    [
+        1,
+        moment,
+        security,
+        side,
+        price,
+        1 + draw.below(2000) as i64,
+    ]
+}
+
+// The id of an order that rests, among these.
+fn alive(draw: &mut Draw, venue: &Venue, ids: &mut Vec<u64>) -> i64 {
+    loop {
+        let at = draw.below(ids.len() as u64) as usize;
+        if venue.holds(ids[at]) {
+            return ids[at] as i64;
+        }
+        ids.swap_remove(at);
+    }
+}
+
+/// Commands of six numbers: so many new orders, and then in turn two that keep the number of orders (new ones, or deletions), one that
+/// trades, and a modification.
+fn commands(count: usize) -> Vec<i64> {
+    let mut draw = Draw(3);
+    let mut venue = Venue::new(SECURITIES.to_vec());
+    let (mut rows, mut ids) = (Vec::new(), Vec::new());
+    for call in 0..count + CALLS {
+        let moment = call as i64 + 1;
+        let row = if call < count {
+            resting(&mut draw, moment)
+        } else if call % 4 == 2 {
+            crossing(&mut draw, moment)
+        } else if call % 4 == 3 {
+            let order = alive(&mut draw, &venue, &mut ids);
+            let price = 9000 + draw.below(2000) as i64;
+            [2, moment, order, 0, price, 2000 + draw.below(1000) as i64]
+        } else if venue.len() < count {
+            resting(&mut draw, moment)
+        } else {
+            [3, moment, alive(&mut draw, &venue, &mut ids), 0, 0, 0]
+        };
+        let (moment, command) = command_of(&row).unwrap();
+        let before = venue.last_id();
+        venue.apply(moment, &command);
+        if before < venue.last_id() {
+            ids.push(venue.last_id());
+        }
+        rows.push(row);
+    }
+    rows.concat()
+}
+
+fn command_of(row: &[i64]) -> Option<(u64, Command)> {
+    let [kind, moment, name, side, price, qty] = *row else {
+        return None;
+    };
+    let command = match kind {
+        1 => Command::New {
+            security: name,
+            buys: side == 1,
+            price,
+            qty,
         },
-        || beyond(|| plain_book(&numbers), || plain_book(before)),
-    );
+        2 => Command::Modify {
+            order: name as u64,
+            price,
+            qty,
+        },
+        3 => Command::Delete { order: name as u64 },
+        _ => return None,
+    };
+    Some((moment as u64, command))
+}
+
+#[inline(never)]
+fn plain_orders(numbers: &[i64]) -> u64 {
+    let mut venue = Venue::new(SECURITIES.to_vec());
+    let mut said = 0u64;
+    for row in numbers.chunks_exact(COMMAND_NUMBERS) {
+        if let Some((moment, command)) = command_of(row) {
+            said = said.wrapping_add(venue.apply(moment, &command));
+        }
+    }
+    let sum = venue.walk().fold(0u64, |sum, (stamp, qty)| {
+        sum.wrapping_mul(31)
+            .wrapping_add(stamp)
+            .wrapping_add(qty as u64)
+    });
+    sum.wrapping_add(said)
+}
+
+fn proved_orders(product: &str, numbers: &[i64]) -> u64 {
+    // Each pointer is that of a slice of the length beside it, which outlives the call.
+    unsafe {
+        t7_bench_orders(
+            product.as_ptr(),
+            product.len(),
+            numbers.as_ptr(),
+            numbers.len(),
+        )
+    }
+}
+
+fn compare_venues(product: &str) {
+    for orders in VENUE_SIZES {
+        let numbers = commands(orders);
+        let before = &numbers[..orders * COMMAND_NUMBERS];
+        compare(
+            &format!("commands on an exchange's book of about {orders} orders"),
+            CALLS as f64,
+            3,
+            || {
+                beyond(
+                    || proved_orders(product, &numbers),
+                    || proved_orders(product, before),
+                )
+            },
+            || beyond(|| plain_orders(&numbers), || plain_orders(before)),
+        );
+    }
 }
 
 fn compare_members(table: &str) {
@@ -479,6 +631,7 @@ fn main() {
     if only.is_none() {
         compare_datagrams(&table);
         compare_books(&product);
+        compare_venues(&product);
     }
     compare_members(&table);
 }
