@@ -1,10 +1,9 @@
 -- The last order of the book.
-use Rattle.std.proofs.Common.{◌≡◌, ◌≢◌, ℕ, ℤ, zero, suc, ◌+◌, ◌<◌, List, [], ◌∷◌, ◌++◌, length, get_or, Some, None, Option, refl, sym, ap, subst, ◌∙◌, arith}
+use Rattle.std.proofs.Common.{◌≡◌, ℕ, ℤ, ◌+◌, ◌<◌, List, [], ◌∷◌, ◌++◌, length, get_or, Some, None, refl, sym, ap, ◌∙◌, arith}
 use Rattle.std.proofs.lemmas.List.{append_assoc, append-nil}
 use Rattle.std.proofs.lemmas.List.Concat.{flat_map-append}
-use Rattle.t7_lists.specs.declared.place.Place.{Place}
 use Rattle.t7_lists.specs.declared.place.Place.TheVariants.{Slot, Head}
-use Rattle.t7_lists.specs.Paths.{first_or, last_or}
+use Rattle.t7_lists.specs.Paths.{last_or}
 use Rattle.t7_levels.specs.declared.key.LevelKey.{LevelKey}
 use Rattle.t7_levels.specs.Chain.{Each, slots, Ahead}
 use Rattle.t7_levels.specs.Named.{last_entry}

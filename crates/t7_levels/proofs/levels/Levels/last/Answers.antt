@@ -1,10 +1,8 @@
-use Rattle.std.proofs.Common.{◌≡◌, ◌<◌, ◌∷◌, ◌++◌, ℕ, List, [], Some, None, length, get_or, refl, sym, ap, subst, ◌∙◌, arith}
+use Rattle.std.proofs.Common.{◌≡◌, ◌∷◌, ℕ, List, [], get_or, sym, ap, subst, ◌∙◌}
 use Rattle.t7_levels.specs.declared.key.LevelKey.{LevelKey}
-use Rattle.t7_lists.specs.declared.place.Place.TheVariants.{Slot, Head}
 use Rattle.t7_levels.specs.Chain.{Each}
 use Rattle.t7_levels.specs.Ladder.{Shelf, Among, IsRow, book}
 use Rattle.t7_levels.proofs.EachLemmas.{Each-back}
-use Rattle.t7_levels.proofs.StandLemmas.{seen_items}
 use Rattle.t7_levels.proofs.LastLemmas.{last_cut, no_last, slot_last, head_last, level_end, last_among, last_row}
 use Rattle.t7_levels.proofs.levels.Levels.last.Goals as goal
 
