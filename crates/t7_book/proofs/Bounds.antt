@@ -15,7 +15,7 @@ use Rattle.t7_book.specs.declared.command.Note.TheVariants.{Cleared}
 use Rattle.t7_book.specs.Orders.{BookState, empty_book, is_in, is_of, is_order, order_of, roster_of, without}
 use Rattle.t7_book.specs.Commands.{changed_order, keeps_priority, new_order, new_stamp, refusal}
 use Rattle.t7_book.specs.Trades.{after_trade, after_trades, crosses, fills, price_crosses, taken, traded, trades}
-use Rattle.t7_book.specs.Steps.{arrival, cancellation, change, change_notes, cleared, crossing, deletions, executions, messages, modification, notes_of, remainder, steps}
+use Rattle.t7_book.specs.Steps.{arrival, cancellation, change, change_notes, cleared, crossing, deletions, executions, modification, notes_of, remainder, steps}
 use Rattle.t7_book.specs.Laws.{CommandsAreShort, IsBook, left_by}
 use Rattle.t7_book.proofs.Books.{accepted_more, left_roster, running_left}
 use Rattle.t7_book.proofs.Lists.{found_in}

@@ -15,7 +15,7 @@ use Rattle.t7_book.specs.Orders.{same_name, without, with_left, renewed, order_o
 use Rattle.t7_book.specs.Trades.{after_trade, after_trades, is_used_up, trades}
 use Rattle.t7_book.specs.Laws.{Each, Distinct}
 use Rattle.t7_book.specs.Numbers.{is_listed, number_of, rank_of_price}
-use Rattle.t7_book.specs.Kept.{IsNumbered, Listed, MayEnter, Requantifies, Stands, orders_in}
+use Rattle.t7_book.specs.Kept.{IsNumbered, Listed, MayEnter, Stands, orders_in}
 use Rattle.t7_book.proofs.InOrder as in_order
 use Rattle.t7_book.proofs.Lists.{IsIn, each_at, each_weaker, each_filter, each_renewed, found_in, stands}
 use Rattle.t7_book.proofs.Makers.{AreMakers, makers_after, trades_makers}

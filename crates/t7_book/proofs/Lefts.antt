@@ -1,7 +1,6 @@
 -- The book that accepted commands leave is a book.
 use Rattle.std.proofs.Common.{◌≡◌, ℕ, List, [], ◌∷◌, None, arith}
 use Rattle.t7_base.specs.Listing.{Listing}
-use Rattle.t7_base.specs.declared.public.Public.{Public}
 use Rattle.t7_book.specs.declared.order.Order.{Order}
 use Rattle.t7_book.specs.declared.command.Command.{Command}
 use Rattle.t7_book.specs.Orders.{BookState, Roster, empty_book, roster_of}

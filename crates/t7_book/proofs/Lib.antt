@@ -25,3 +25,4 @@ pub mod Named
 pub mod NamedDay
 pub mod Books
 pub mod Bounds
+pub mod Noting

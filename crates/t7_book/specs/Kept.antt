@@ -3,7 +3,6 @@ use Rattle.std.specs.Prelude.{◌≡◌, ◌≢◌, ◌==◌, if◌then◌else�
 use Rattle.std.specs.List.{filter, find}
 use Rattle.std.specs.Ordering.{int_eq}
 use Rattle.t7_base.specs.declared.ids.Side.{Side}
-use Rattle.t7_base.specs.declared.public.Resting.{Resting}
 use Rattle.t7_levels.specs.Chain as chain
 use Rattle.t7_levels.specs.Index as index
 use Rattle.t7_book.specs.declared.kept.Kept.{Kept}

@@ -1,5 +1,5 @@
 -- The sides of the securities by number, and the rank of a price in its side.
-use Rattle.std.specs.Prelude.{ℕ, ◌+◌, ◌*◌, Bool, ℤ, pos, ◌-ℤ◌, List}
+use Rattle.std.specs.Prelude.{ℕ, ◌+◌, ◌*◌, Bool, if◌then◌else◌, Option, Some, None, ℤ, pos, ◌-ℤ◌, List}
 use Rattle.std.specs.List.{list_any}
 use Rattle.std.specs.Ordering.{int_eq}
 use Rattle.t7_base.specs.declared.ids.Side.{Side}
@@ -18,6 +18,15 @@ side_index Sell = 1
 -- the number of a side: the securities as in the product file, the buys of each before its sells
 abbrev pub number_of : List ℤ → ℤ → Side → ℕ
 number_of securities security side = 2 * rank_of securities security + side_index side
+
+-- where a security stands in the product file, if it does
+abbrev pub rank_in : List ℤ → ℤ → Option ℕ
+rank_in securities security = if is_listed securities security then Some (rank_of securities security) else None
+
+-- what is noted of a security, once one was met at this place
+abbrev pub noted : Option ℕ → Bool → ℕ → Option ℕ
+noted None same place = if same then Some place else None
+noted (Some rank) same place = Some rank
 
 -- the rank of a price in its side: the best has the least
 abbrev pub rank_of_price : Side → ℤ → ℤ

@@ -27,6 +27,7 @@ pub use laws::{
 };
 pub use order::Order;
 pub use orders::BookWalk;
+pub use sides::Sides;
 pub use trade::Trade;
 
 #[cfg(test)]

@@ -51,9 +51,10 @@ impl Orders {
         ensures list { IfOk result (λ orders. orders.list ≡ []) }
     {
         let places = securities.len();
+        let sides = Sides::new(alloc, securities)?;
         let counts = zeros(alloc, places)?;
         let shelves = Shelves::new(alloc, 2 * places, vacant())?;
-        Ok(Orders::of(Sides::new(securities), counts, shelves))
+        Ok(Orders::of(sides, counts, shelves))
     }
 
     /// No orders, on levels without orders.

@@ -1,18 +1,16 @@
 -- Orders go until none of a side is left.
-use Rattle.std.proofs.Common.{◌≡◌, ℕ, ℤ, ◌+◌, ◌<◌, ◌≤◌, Bool, true, false, not, cond, ◌&&◌, eqb, List, [], ◌∷◌, length, Some, None, Option, refl, sym, ap, subst, ◌∙◌, inl, inr, arith}
-use Rattle.std.specs.Prelude.{slice_get, ◌==◌}
+use Rattle.std.proofs.Common.{◌≡◌, ℕ, ℤ, ◌<◌, Bool, true, false, not, cond, ◌&&◌, List, [], ◌∷◌, length, Some, None, Option, refl, sym, ap, ◌∙◌, inl, inr, arith}
+use Rattle.std.specs.Prelude.{◌==◌}
 use Rattle.std.specs.List.{filter, find}
 use Rattle.std.specs.Ordering.{int_eq}
 use Rattle.std.proofs.lemmas.Bool.{cases_Bool, and_parts, eq-eqb}
-use Rattle.std.proofs.lemmas.Bool.Decides.{Decides-int_eq}
 use Rattle.t7_base.specs.declared.ids.Side.{Side}
 use Rattle.t7_base.specs.declared.ids.Side.TheVariants.{Buy, Sell}
 use Rattle.t7_base.specs.declared.public.Resting.{Resting}
 use Rattle.t7_book.specs.Orders.{has_name, is_side}
-use Rattle.t7_mbook.specs.Changes.{named, without_name}
+use Rattle.t7_mbook.specs.Changes.{without_name}
 use Rattle.t7_mbook.proofs.Room.{length_dropped}
 use Rattle.t7_mbook.proofs.FitLemmas.{found_passes}
-use Rattle.t7_mbook.proofs.KeptLemmas.{Decides-side}
 
 -- what passes one test is found by any that it passes
 found_too : (p q : Resting → Bool) (list : List Resting) (y : Resting) → find p list ≡ Some y → q y ≡ true → (kept : Resting) × (find q list ≡ Some kept)

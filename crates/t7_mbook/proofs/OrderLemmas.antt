@@ -1,14 +1,14 @@
 -- The orders by their names on the feed.
-use Rattle.std.proofs.Common.{◌≡◌, ℕ, ℤ, suc, ◌+◌, ◌*◌, ◌<◌, ◌≤◌, Bool, true, false, not, cond, ◌&&◌, ◌||◌, eqb, List, [], ◌∷◌, length, map, Some, None, Option, refl, sym, ap, subst, ◌∙◌, inl, inr, arith}
+use Rattle.std.proofs.Common.{◌≡◌, ℕ, ℤ, ◌*◌, ◌<◌, Bool, true, false, cond, ◌&&◌, eqb, List, [], ◌∷◌, length, map, Some, None, Option, refl, sym, ap, subst, ◌∙◌, inl, inr, arith}
 use Rattle.std.specs.Prelude.{IfSome}
-use Rattle.std.specs.List.{filter, find}
+use Rattle.std.specs.List.{find}
 use Rattle.std.specs.Ordering.{int_eq}
 use Rattle.std.proofs.lemmas.Bool.{cases_Bool, and_parts, eqb-true}
 use Rattle.std.proofs.lemmas.Bool.Decides.{Decides-int_eq}
 use Rattle.t7_base.specs.declared.ids.Side.{Side}
 use Rattle.t7_base.specs.declared.ids.Side.TheVariants.{Buy, Sell}
 use Rattle.t7_base.specs.declared.public.Resting.{Resting}
-use Rattle.t7_book.specs.Orders.{rank_of, has_name, is_side, goes_before}
+use Rattle.t7_book.specs.Orders.{has_name, is_side, goes_before}
 use Rattle.t7_levels.specs.Chain.{Each}
 use Rattle.t7_levels.specs.Ladder.{goes}
 use Rattle.t7_levels.specs.Index.{is_called, renewed}
@@ -17,7 +17,7 @@ use Rattle.t7_mbook.specs.declared.kept.OrderName.{OrderName}
 use Rattle.t7_mbook.specs.Changes.{named, renewed_resting}
 use Rattle.t7_mbook.specs.Misfits.{is_listed}
 use Rattle.t7_mbook.specs.Ranks.{rank_of_price}
-use Rattle.t7_mbook.specs.Numbers.{side_index, number_of}
+use Rattle.t7_book.specs.Numbers.{number_of}
 use Rattle.t7_mbook.specs.Kept.{IsNumbered, shown_orders, shown_option}
 use Rattle.t7_mbook.proofs.SideLemmas.{rank_within}
 use Rattle.t7_mbook.proofs.KeptLemmas.{numbered, ranked, stamped, name_of, name_cmp, goes_is, name_test, side_test, elsewhere, Decides-side}

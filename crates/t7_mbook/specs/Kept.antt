@@ -1,11 +1,11 @@
 -- The orders of a book as they are kept.
-use Rattle.std.specs.Prelude.{◌≡◌, ℕ, ◌*◌, ◌≤◌, true, ℤ, List, length, map, Option, None, Some}
+use Rattle.std.specs.Prelude.{◌≡◌, ◌*◌, ◌≤◌, true, ℤ, List, length, map, Option, None, Some}
 use Rattle.t7_base.specs.declared.public.Resting.{Resting}
 use Rattle.t7_levels.specs.Chain.{Each}
 use Rattle.t7_levels.specs.Index.{Orders}
 use Rattle.t7_mbook.specs.declared.kept.Kept.{Kept}
 use Rattle.t7_mbook.specs.Misfits.{is_listed}
-use Rattle.t7_mbook.specs.Numbers.{number_of}
+use Rattle.t7_book.specs.Numbers.{number_of}
 
 -- the order's security is the product's, and its side has this number
 pub record IsNumbered (securities : List ℤ) (k : Kept) : Type 0 where

@@ -12,10 +12,10 @@ ghost use Rattle.std.specs.Option.{option_copied};
 ghost use Rattle.t7_mbook.specs.Walk.{walk_rest};
 
 use crate::kept::{Kept, OrderName};
-use crate::sides::Sides;
 use std::alloc::{AllocError, Global};
 use std::marker::Model;
 use t7_base::{Price, Qty, Resting, SecurityId, Side, Stamp};
+use t7_book::Sides;
 use t7_levels::{Shelves, Walk};
 
 /// How many orders a book holds at most.
@@ -61,6 +61,17 @@ impl Orders {
     {
         let _ = &self.sides;
         self.shelves.len()
+    }
+
+    /// Whether the security is the product's.
+    pub(crate) fn lists(&self, security: SecurityId) -> bool
+        ensures { result ≡ is_listed self.now.securities security }
+    {
+        let _ = &self.shelves;
+        match self.sides.rank(security) {
+            None => false,
+            Some(_) => true,
+        }
     }
 
     /// The order of this name.

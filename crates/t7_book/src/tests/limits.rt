@@ -165,6 +165,9 @@ fn fill_up(
     }
     assert_eq!(rt; (book.len(), out.len(), notes.len()), (20_000, 20_000, 0));
     assert_eq!(rt; book.last_id(), OrderId(20_000));
+    assert!(rt; book.find(DAY, OrderId(20_000)).is_some());
+    assert!(rt; book.find(NIGHT, OrderId(20_000)).is_none());
+    assert!(rt; book.find(DAY, OrderId(20_001)).is_none());
     Ok(())
 }
 

@@ -4,7 +4,7 @@ use Rattle.std.specs.List.{find}
 use Rattle.t7_book.specs.declared.kept.Kept.{Kept}
 use Rattle.t7_book.specs.Numbers.{is_listed, number_of}
 use Rattle.t7_book.specs.Kept.{Listed, is_on, order_in}
-use Rattle.t7_book.proofs.Numbered.{find_shown, listed_is, none_found, none_here, number_fits, numbered, sides_alike, unlisted_is}
+use Rattle.t7_book.proofs.Numbered.{find_shown, listed_is, none_found, none_here, number_fits, sides_alike, unlisted_is}
 use Rattle.t7_book.proofs.orders.Orders.first.Goals as goal
 
 pub returns-in-None : goal.returns-in-None

@@ -4,12 +4,12 @@ use Rattle.t7_levels.specs.Chain as chain
 use Rattle.t7_book.specs.declared.kept.Kept.{Kept}
 use Rattle.t7_book.specs.declared.order.Order.{Order}
 use Rattle.t7_book.specs.Orders.{same_name, without}
-use Rattle.t7_book.specs.Laws.{Each, Distinct, IsInOrder}
+use Rattle.t7_book.specs.Laws.{Distinct, IsInOrder}
 use Rattle.t7_book.specs.Numbers.{is_listed}
 use Rattle.t7_book.specs.Kept.{IsNumbered, Listed, Stands, orders_in}
 use Rattle.t7_book.proofs.InOrder.{in_order_filter}
 use Rattle.t7_book.proofs.Lists.{distinct_filter, each_at}
-use Rattle.t7_book.proofs.Numbered.{each_kept, fewer_kept, filter_shown, is_named, numbered}
+use Rattle.t7_book.proofs.Numbered.{each_kept, fewer_kept, filter_shown, is_named}
 use Rattle.t7_book.proofs.Ids.{in_list, kept_alike}
 use Rattle.t7_book.proofs.Kepts.{listed_each}
 use Rattle.std.proofs.lemmas.List.{length-set}

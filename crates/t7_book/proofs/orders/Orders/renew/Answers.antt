@@ -7,12 +7,12 @@ use Rattle.t7_levels.specs.Chain as chain
 use Rattle.t7_levels.specs.Index as index
 use Rattle.t7_book.specs.declared.kept.Kept.{Kept}
 use Rattle.t7_book.specs.Orders.{renewed, same_name}
-use Rattle.t7_book.specs.Laws.{Each, Distinct, IsInOrder}
+use Rattle.t7_book.specs.Laws.{Distinct, IsInOrder}
 use Rattle.t7_book.specs.Numbers.{is_listed}
-use Rattle.t7_book.specs.Kept.{IsNumbered, Listed, Requantifies, Stands, orders_in}
+use Rattle.t7_book.specs.Kept.{IsNumbered, Listed, Stands, orders_in}
 use Rattle.t7_book.proofs.InOrder.{in_order_renewed}
 use Rattle.t7_book.proofs.Lists.{distinct_renewed, each_at, only_named}
-use Rattle.t7_book.proofs.Numbered.{named, numbered}
+use Rattle.t7_book.proofs.Numbered.{named}
 use Rattle.t7_book.proofs.Ids.{in_list, kept_alike}
 use Rattle.t7_book.proofs.Kepts.{listed_each, renewable, requantified, renewed_alike, renewed_numbered, renewed_shown}
 use Rattle.t7_book.proofs.Counting.{count_renewed, counted_same}

@@ -6,7 +6,7 @@ use Rattle.t7_book.specs.declared.kept.Kept.{Kept}
 use Rattle.t7_book.specs.Trades.{crosses}
 use Rattle.t7_book.specs.Numbers.{is_listed}
 use Rattle.t7_book.specs.Kept.{EndsAtFirst, Listed, is_on, orders_in}
-use Rattle.t7_book.proofs.Numbered.{from_shown, number_fits, numbered, sides_alike}
+use Rattle.t7_book.proofs.Numbered.{from_shown, number_fits, sides_alike}
 use Rattle.t7_book.proofs.Kepts.{listed_each}
 use Rattle.t7_book.proofs.Ends.{ends}
 use Rattle.t7_book.proofs.orders.Orders.walk_of.Goals as goal

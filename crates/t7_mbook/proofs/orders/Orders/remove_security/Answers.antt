@@ -1,10 +1,9 @@
-use Rattle.std.proofs.Common.{◌≡◌, ◌<◌, ◌&&◌, ℕ, not, List, Some, None, length, sym, ap, subst, ◌∙◌, arith}
-use Rattle.std.specs.List.{filter, find}
+use Rattle.std.proofs.Common.{◌&&◌, not, ap, ◌∙◌}
+use Rattle.std.specs.List.{filter}
 use Rattle.std.specs.Ordering.{int_eq}
-use Rattle.t7_base.specs.declared.ids.Side.TheVariants.{Buy, Sell}
-use Rattle.t7_base.specs.declared.public.Resting.{Resting}
+use Rattle.t7_base.specs.declared.ids.Side.TheVariants.{Sell}
 use Rattle.t7_book.specs.Orders.{is_side}
-use Rattle.t7_mbook.proofs.ClearLemmas.{one_fewer, others_stay, none_goes, both_sides, none_of}
+use Rattle.t7_mbook.proofs.ClearLemmas.{both_sides}
 use Rattle.t7_mbook.proofs.orders.Orders.remove_security.Goals as goal
 
 pub returns-clause-list : goal.returns-clause-list

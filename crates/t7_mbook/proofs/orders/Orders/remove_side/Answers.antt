@@ -1,10 +1,8 @@
-use Rattle.std.proofs.Common.{◌≡◌, ◌<◌, ◌&&◌, ℕ, not, List, Some, None, length, sym, ap, subst, ◌∙◌, arith}
-use Rattle.std.specs.List.{filter, find}
+use Rattle.std.proofs.Common.{◌&&◌, not, length, sym, ap, ◌∙◌, arith}
+use Rattle.std.specs.List.{filter}
 use Rattle.std.specs.Ordering.{int_eq}
-use Rattle.t7_base.specs.declared.ids.Side.TheVariants.{Buy, Sell}
-use Rattle.t7_base.specs.declared.public.Resting.{Resting}
 use Rattle.t7_book.specs.Orders.{is_side}
-use Rattle.t7_mbook.proofs.ClearLemmas.{one_fewer, others_stay, none_goes, both_sides, none_of}
+use Rattle.t7_mbook.proofs.ClearLemmas.{one_fewer, others_stay, none_goes, none_of}
 use Rattle.t7_mbook.proofs.orders.Orders.remove_side.Goals as goal
 
 pub loop-first-smaller : goal.loop-first-smaller

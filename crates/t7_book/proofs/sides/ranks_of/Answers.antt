@@ -1,9 +1,9 @@
-use Rattle.std.proofs.Common.{◌≡◌, ℕ, ℤ, ◌+◌, ◌<◌, ◌≤◌, ◌++◌, ◌∷◌, List, [], Option, length, take, sym, ap, ◌∙◌, arith}
+use Rattle.std.proofs.Common.{◌≡◌, ℕ, ℤ, ◌+◌, ◌<◌, ◌++◌, ◌∷◌, List, [], Option, length, take, sym, ap, ◌∙◌, arith}
 use Rattle.std.specs.Ordering.{int_eq}
 use Rattle.std.proofs.lemmas.List.{take_more, take_all, length-take-le}
-use Rattle.t7_mbook.specs.Numbers.{rank_in, noted}
-use Rattle.t7_mbook.proofs.SideLemmas.{noted_last}
-use Rattle.t7_mbook.proofs.sides.ranks_of.Goals as goal
+use Rattle.t7_book.specs.Numbers.{rank_in, noted}
+use Rattle.t7_book.proofs.Noting.{noted_last}
+use Rattle.t7_book.proofs.sides.ranks_of.Goals as goal
 
 pub loop-rank-preserved : goal.loop-rank-preserved
 loop-rank-preserved c s =
