@@ -1,6 +1,8 @@
 // Datagrams of the sample table, read and written.
 
-ghost use Rattle.std.specs.Prelude.{◌≡◌, ◌<◌, IfSome, pos};
+ghost use Rattle.std.specs.Prelude.{◌≡◌, ◌≢◌, ◌<◌, ◌≤◌, IfSome, length, pos};
+ghost use Rattle.t7_base.specs.declared.public.Public.TheVariants as public;
+ghost use Rattle.t7_eobi.specs.Bytes.{IsKnown, IsSecurity, IsSequence, security_of};
 
 mod vectors;
 
@@ -296,6 +298,28 @@ fn an_other_message_follows_an_order(rt: HostRuntime) -> Result<(), Fail> {
     Ok(())
 }
 
+// Writes a live message where there is room for no more than it.
+fn put_live(table: &Table, number: u32, message: &Public, out: &mut [u8]) -> usize
+    requires some { message.now ≢ public.Other }
+    requires number { IsSequence number }
+    requires security { IsSecurity (security_of message.now) }
+    requires room { 128 ≤ length out.old }
+    ensures short { result ≤ 128 }
+{
+    let size = message_size(table, message);
+    write_public(table, number, message, &mut out[..size])
+}
+
+// Writes an item of a snapshot where there is room for no more than it.
+fn put_snap(table: &Table, snap: &Snap, out: &mut [u8]) -> usize
+    requires known { IsKnown snap.now }
+    requires room { 128 ≤ length out.old }
+    ensures short { result ≤ 128 }
+{
+    let size = snap_size(table, snap);
+    write_snap(table, snap, &mut out[..size])
+}
+
 #[test]
 fn a_further_field_of_the_table_changes_no_order(rt: HostRuntime) -> Result<(), Fail> {
     let (front, back) = SAMPLE.split_once("EOBI,4,").ok_or("rows")?;
@@ -309,7 +333,7 @@ fn a_further_field_of_the_table_changes_no_order(rt: HostRuntime) -> Result<(), 
     assert_eq!(rt; fault(&table, Channel::Live, &LIVE), Some(("length", 16)));
     let mut out = [0; 512];
     let header = write_header(&table, 7, 1, &mut out);
-    let end = header + write_public(&table, 1, &add, &mut out[header..]);
+    let end = header + put_live(&table, 1, &add, &mut out[header..]);
     assert_eq!(rt; &out[..end], LONGER.as_slice());
     Ok(())
 }
@@ -320,7 +344,7 @@ fn a_live_datagram_is_written(rt: HostRuntime) -> Result<(), Fail> {
     let order = order().ok_or("order")?;
     let mut out = [0; 512];
     let header = write_header(&table, 7, 1, &mut out);
-    let add = write_public(&table, 1, &Public::Add { order }, &mut out[header..]);
+    let add = put_live(&table, 1, &Public::Add { order }, &mut out[header..]);
     assert_eq!(rt; &out[..header + add], LIVE.as_slice());
     let beat = write_beat(&table, 3, &mut out);
     assert_eq!(rt; &out[..beat], &OTHERS[32..48]);
@@ -334,19 +358,19 @@ fn a_snapshot_datagram_is_written(rt: HostRuntime) -> Result<(), Fail> {
     let (side, price, stamp, qty) = (order.side, order.price, order.stamp, order.qty);
     let mut out = [0; 512];
     let header = write_header(&table, 7, 5, &mut out);
-    let product = header + write_snap(&table, &Snap::Product(1), &mut out[header..]);
+    let product = header + put_snap(&table, &Snap::Product(1), &mut out[header..]);
     let instrument = Snap::Instrument {
         security: SecurityId(1001),
         count: 1,
     };
-    let security = product + write_snap(&table, &instrument, &mut out[product..]);
+    let security = product + put_snap(&table, &instrument, &mut out[product..]);
     let item = Snap::Order {
         side,
         price,
         stamp,
         qty,
     };
-    let end = security + write_snap(&table, &item, &mut out[security..]);
+    let end = security + put_snap(&table, &item, &mut out[security..]);
     assert_eq!(rt; &out[..end], SNAP.as_slice());
     Ok(())
 }

@@ -5,7 +5,7 @@ ghost use Rattle.std.specs.Prelude.{◌≡◌, ◌≢◌, IfSome};
 ghost use Rattle.t7_base.specs.declared.public.Public.TheVariants as public;
 ghost use Rattle.t7_eobi.specs.Bytes.{IsKnown, IsSecurity, IsSequence, security_of};
 
-use super::{lives, snaps};
+use super::{lives, put_live, put_snap, snaps};
 use crate::*;
 use std::test::Fail;
 use t7_base::{Price, Public, Qty, Resting, SecurityId, Side, Stamp};
@@ -86,7 +86,7 @@ fn is_live(table: &Table, number: u32, message: Public, bytes: &[u8]) -> bool
 {
     let mut out = [0; 256];
     let header = write_header(table, 7, 1, &mut out);
-    let end = header + write_public(table, number, &message, &mut out[header..]);
+    let end = header + put_live(table, number, &message, &mut out[header..]);
     let item = Some(Live::Message(number, message));
     let read = lives(table, &out[..end]);
     &out[header..end] == bytes && read == Some((1, end, [item, None, None]))
@@ -98,7 +98,7 @@ fn is_snap(table: &Table, snap: Snap, bytes: &[u8]) -> bool
 {
     let mut out = [0; 256];
     let header = write_header(table, 7, 1, &mut out);
-    let end = header + write_snap(table, &snap, &mut out[header..]);
+    let end = header + put_snap(table, &snap, &mut out[header..]);
     let read = snaps(table, &out[..end]);
     &out[header..end] == bytes && read == Some([Some(snap), None, None, None])
 }
