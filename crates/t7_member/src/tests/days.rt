@@ -7,6 +7,7 @@ use std::alloc::Global;
 use std::process::Abort;
 use std::test::Fail;
 use t7_base::Feed::{LiveA, LiveB, SnapA, SnapB};
+use t7_base::Product;
 use t7_eobi::{PacketFault, PacketWhy};
 use t7_layout::Table;
 use t7_mbook::Misfit;
@@ -35,13 +36,25 @@ const SEVEN: [Buy; 7] = [
     (100, 70, 7),
 ];
 
+/// A new member plays this day.
+fn plays_one(
+    rt: &impl Abort,
+    alloc: Global,
+    table: &Table,
+    product: &Product,
+    day: Day<'_>,
+    steps: &[Step],
+) -> Result<(), Fail> {
+    let mut member = Member::new(alloc, table, product)?;
+    play(rt, alloc, &mut member, day, steps)
+}
+
 /// A new member plays each of these days.
 fn plays(rt: &impl Abort, alloc: Global, day: Day<'_>, scripts: &[&[Step]]) -> Result<(), Fail> {
     let table = Table::read(alloc, SAMPLE.as_bytes())?;
     let product = product(alloc)?;
     for steps in scripts {
-        let mut member = Member::new(alloc, &table, &product)?;
-        play(rt, alloc, &mut member, day, steps)?;
+        plays_one(rt, alloc, &table, &product, day, steps)?;
     }
     Ok(())
 }
@@ -165,11 +178,8 @@ fn a_misfit_is_refused_until_a_snapshot_at_its_number(rt: HostRuntime) -> Result
     )
 }
 
-#[test]
-fn refused_and_repeated_deliveries_are_counted_apart(rt: HostRuntime) -> Result<(), Fail> {
-    let table = Table::read(rt.alloc(), SAMPLE.as_bytes())?;
-    let product = product(rt.alloc())?;
-    let mut member = Member::new(rt.alloc(), &table, &product)?;
+/// A member that is refused a datagram and is sent some twice counts each.
+fn counts(rt: &impl Abort, alloc: Global, member: &mut Member<'_>) -> Result<(), Fail> {
     let cut = Delivered::Bad(PacketFault {
         why: PacketWhy::Cut,
         place: 16,
@@ -187,11 +197,19 @@ fn refused_and_repeated_deliveries_are_counted_apart(rt: HostRuntime) -> Result<
         buys: &THREE,
         book: &SORTED,
     };
-    play(&rt, rt.alloc(), &mut member, day, &steps)?;
+    play(rt, alloc, member, day, &steps)?;
     assert_eq!(rt; member.bad(), 1);
     assert_eq!(rt; member.tally(LiveA), Tally { taken: 1, fresh: 1 });
     assert_eq!(rt; member.tally(LiveB), Tally { taken: 3, fresh: 1 });
     assert_eq!(rt; member.tally(SnapA), Tally { taken: 1, fresh: 1 });
     assert_eq!(rt; member.tally(SnapB), Tally { taken: 1, fresh: 0 });
     Ok(())
+}
+
+#[test]
+fn refused_and_repeated_deliveries_are_counted_apart(rt: HostRuntime) -> Result<(), Fail> {
+    let table = Table::read(rt.alloc(), SAMPLE.as_bytes())?;
+    let product = product(rt.alloc())?;
+    let mut member = Member::new(rt.alloc(), &table, &product)?;
+    counts(&rt, rt.alloc(), &mut member)
 }
