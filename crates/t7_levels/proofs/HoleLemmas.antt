@@ -1,17 +1,18 @@
 -- Names that were taken out and still lie among the others.
-use Rattle.std.proofs.Common.{◌≡◌, ℕ, suc, ◌+◌, ◌-◌, ◌≤◌, Bool, cond, List, [], ◌∷◌, ◌++◌, length, get_or, set, take, Some, None, Option, refl, sym, ap, subst, ◌∙◌, arith}
+use Rattle.std.proofs.Common.{◌≡◌, ℕ, zero, suc, ◌+◌, ◌-◌, ◌<◌, ◌≤◌, Bool, cond, List, [], ◌∷◌, ◌++◌, length, get_or, set, take, Some, None, Option, refl, sym, ap, subst, ◌∙◌, inl, inr, arith}
 use Rattle.std.specs.Option.{is_some}
-use Rattle.std.specs.List.{filter, insert}
+use Rattle.std.specs.List.{filter, insert, remove}
 use Rattle.std.specs.declared.cmp.Ordering.{Ordering}
 use Rattle.std.specs.declared.cmp.Ordering.TheVariants.{Less, Equal, Greater}
 use Rattle.std.specs.Cmp.{IsTotalOrder}
 use Rattle.std.proofs.lemmas.Cmp.{alike_right, tied_itself}
-use Rattle.std.proofs.lemmas.List.{length-append, take_at}
+use Rattle.std.proofs.lemmas.List.{append_assoc, length-append, take_at}
 use Rattle.t7_levels.specs.Chain.{Each}
 use Rattle.t7_levels.specs.Named.{Rises, Found, Gap, IsAt, IsGapAt, last_entry}
-use Rattle.t7_levels.specs.Holes.{with_slot, standing, IsIndex}
-use Rattle.t7_levels.proofs.EachLemmas.{Each-back, Each-weaker}
-use Rattle.t7_levels.proofs.NamedLemmas.{flipped, rises_round, insert_gap, rises_insert, found_not_new, found_once, gap_once}
+use Rattle.t7_levels.specs.Holes.{with_slot, standing, IsIndex, IsHole}
+use Rattle.t7_levels.proofs.IndexLemmas.{append-cut}
+use Rattle.t7_levels.proofs.EachLemmas.{Each-front, Each-back, Each-both, Each-weaker}
+use Rattle.t7_levels.proofs.NamedLemmas.{flipped, rises_round, insert_gap, rises_insert, found_not_new, found_once, gap_once, cut_at, rises_out}
 
 module _ {K : Type 0} where
   with_slot-append : (k : K) (o : Option ℕ) (es fs : List (K × ℕ)) → with_slot k o (es ++ fs) ≡ with_slot k o es ++ fs
@@ -118,6 +119,62 @@ read_round xs bs qs x d i parts place = ap (λ us. get_or us i d) parts ∙ ap (
     read_past : {X : Type 0} (bs qs : List X) (x d : X) → get_or (bs ++ x ∷ qs) (length bs) d ≡ x
     read_past [] qs x d = refl
     read_past (b ∷ bs) qs x d = read_past bs qs x d
+
+-- entries that slide by one place
+pub insert_slide : {X : Type 0} (xs : List X) (i : ℕ) (d : X) → i < length xs → insert xs (suc i) (get_or xs i d) ≡ insert xs i (get_or xs i d)
+insert_slide [] i d within = absurd (omega arith)
+insert_slide (x ∷ xs) zero d within = refl
+insert_slide (x ∷ xs) (suc i) d within = ap (λ us. x ∷ us) (insert_slide xs i d (omega arith))
+
+pub set_insert : {X : Type 0} (xs : List X) (i : ℕ) (x y : X) → i ≤ length xs → set (insert xs i x) i y ≡ insert xs i y
+set_insert xs zero x y within = refl
+set_insert [] (suc i) x y within = absurd (omega arith)
+set_insert (z ∷ zs) (suc i) x y within = ap (λ us. z ∷ us) (set_insert zs i x y (omega arith))
+
+pub insert_back : {X : Type 0} (xs : List X) (i : ℕ) (d : X) → i < length xs → insert (remove xs i) i (get_or xs i d) ≡ xs
+insert_back [] i d within = absurd (omega arith)
+insert_back (x ∷ xs) zero d within = refl
+insert_back (x ∷ xs) (suc i) d within = ap (λ us. x ∷ us) (insert_back xs i d (omega arith))
+
+pub read_before : {X : Type 0} (xs : List X) (i : ℕ) (x d : X) → i < length xs → get_or (insert xs (suc i) x) i d ≡ get_or xs i d
+read_before [] i x d within = absurd (omega arith)
+read_before (y ∷ ys) zero x d within = refl
+read_before (y ∷ ys) (suc i) x d within = read_before ys i x d (omega arith)
+
+pub read_insert : {X : Type 0} (xs : List X) (i : ℕ) (x d : X) → i ≤ length xs → get_or (insert xs i x) i d ≡ x
+read_insert xs zero x d within = refl
+read_insert [] (suc i) x d within = absurd (omega arith)
+read_insert (y ∷ ys) (suc i) x d within = read_insert ys i x d (omega arith)
+
+pub length_remove : {X : Type 0} (xs : List X) (i : ℕ) → i < length xs → suc (length (remove xs i)) ≡ length xs
+length_remove [] i within = absurd (omega arith)
+length_remove (x ∷ xs) zero within = refl
+length_remove (x ∷ xs) (suc i) within = ap suc (length_remove xs i (omega arith))
+
+-- an item has come to one place after another, and goes on to the one before
+slide : {X : Type 0} (rest xs : List X) (q : ℕ) (x : X) → q < length rest → ((d : X) → xs ≡ insert rest (suc q) (get_or xs (suc q) d)) → x ≡ get_or xs q x → (d : X) → set xs (suc q) x ≡ insert rest q (get_or (set xs (suc q) x) q d)
+slide {X} rest xs q x within moved read d =
+    let is = moved x in
+    let y = get_or rest q x in
+    let same : x ≡ y = read ∙ ap (λ (us : List X). get_or us q x) is ∙ read_before rest q (get_or xs (suc q) x) x within in
+    let left : set xs (suc q) x ≡ insert rest q y = ap (λ (us : List X). set us (suc q) x) is ∙ set_insert rest (suc q) (get_or xs (suc q) x) x (omega (arith, within)) ∙ ap (λ (z : X). insert rest (suc q) z) same ∙ insert_slide rest q x within in
+    left ∙ ap (λ (z : X). insert rest q z) (sym (ap (λ (us : List X). get_or us q d) left ∙ read_insert rest q y d (omega (arith, within))))
+
+pub slide_on : {X : Type 0} (rest xs : List X) (p q : ℕ) (x : X) → p ≡ suc q → q < length rest → ((d : X) → xs ≡ insert rest p (get_or xs p d)) → x ≡ get_or xs q x → (d : X) → set xs p x ≡ insert rest q (get_or (set xs p x) q d)
+slide_on {X} rest xs p q x next within moved read d =
+    subst (λ (i : ℕ). ((d : X) → xs ≡ insert rest i (get_or xs i d)) → set xs i x ≡ insert rest q (get_or (set xs i x) q d)) (sym next) (λ m. slide rest xs q x within m read d) moved
+
+pub slide_end : {X : Type 0} (rest xs : List X) (p q : ℕ) (x : X) → p ≡ q → q ≤ length rest → ((d : X) → xs ≡ insert rest p (get_or xs p d)) → set xs q x ≡ insert rest q x
+slide_end {X} rest xs p q x same within moved =
+    ap (λ (us : List X). set us q x) (moved x ∙ ap (λ (i : ℕ). insert rest i (get_or xs p x)) same) ∙ set_insert rest q (get_or xs p x) x within
+
+-- a list without the item at the end of its front
+pub remove_round : {X : Type 0} (xs bs qs : List X) (x : X) (i : ℕ) → xs ≡ bs ++ x ∷ qs → length bs ≡ i → remove xs i ≡ bs ++ qs
+remove_round xs bs qs x i parts place = ap (λ us. remove us i) parts ∙ ap (λ k. remove (bs ++ x ∷ qs) k) (sym place) ∙ remove_past bs qs x
+  where
+    remove_past : {X : Type 0} (bs qs : List X) (x : X) → remove (bs ++ x ∷ qs) (length bs) ≡ bs ++ qs
+    remove_past [] qs x = refl
+    remove_past (b ∷ bs) qs x = ap (λ us. b ∷ us) (remove_past bs qs x)
 
 module _ {K : Type 0} (cmp : K → K → Ordering) (total : IsTotalOrder cmp) where
   -- an entry of this name with a slot is where the name stands
@@ -249,7 +306,7 @@ module _ {K : Type 0} (cmp : K → K → Ordering) (total : IsTotalOrder cmp) wh
   taken_rises es name at slot x rises read f place =
       subst (Rises cmp) (sym (taken_is es name at slot x read f place)) (rises_renamed f.before f.after f.kept f.kept (Some slot) None (tied_itself total f.kept) (subst (Rises cmp) f.parts rises))
 
-  pub taken : (es : List (K × Option ℕ)) (name : K) (at slot holes capacity : ℕ) (x : K × Option ℕ) → IsIndex cmp es holes capacity → x ≡ get_or es at x → (f : Found cmp es name (Some slot)) → length f.before ≡ at → (holes + 1 ≡ 256 → ⊥) → IsIndex cmp (set es at (x.0, None)) (holes + 1) capacity
+  pub taken : (es : List (K × Option ℕ)) (name : K) (at slot holes capacity : ℕ) (x : K × Option ℕ) → IsIndex cmp es holes capacity → x ≡ get_or es at x → (f : Found cmp es name (Some slot)) → length f.before ≡ at → (holes + 1 ≡ 512 → ⊥) → IsIndex cmp (set es at (x.0, None)) (holes + 1) capacity
   taken es name at slot holes capacity x index read f place few =
       let is = taken_is es name at slot x read f place in
       record {
@@ -266,3 +323,52 @@ module _ {K : Type 0} (cmp : K → K → Ordering) (total : IsTotalOrder cmp) wh
       standing_round (set es at (x.0, None)) f.after f.before (f.kept, None) (taken_is es name at slot x read f place)
       ∙ ap (λ (us : List (K × ℕ)). us ++ standing f.after) once.0
       ∙ ap (λ (us : List (K × ℕ)). h.before ++ us) once.2
+
+  -- a hole is closed
+  pub closed_stands : (es : List (K × Option ℕ)) (from hole : ℕ) → IsHole es from hole → standing (remove es hole) ≡ standing es
+  closed_stands es from hole h =
+      let cut = cut_at es hole h.within in
+      let none : cut.item.1 ≡ None = ap (λ (e : K × Option ℕ). e.1) (sym (cut.read cut.item)) ∙ h.empty cut.item in
+      ap standing (remove_round es cut.before cut.after cut.item hole cut.parts cut.place)
+      ∙ standing-append cut.before cut.after
+      ∙ sym (standing_round es cut.after cut.before cut.item cut.parts ∙ ap (λ (o : Option ℕ). standing cut.before ++ with_slot cut.item.0 o (standing cut.after)) none)
+
+  pub closed_index : (es : List (K × Option ℕ)) (from hole holes capacity : ℕ) → IsIndex cmp es holes capacity → IsHole es from hole → (1 ≤ holes) × IsIndex cmp (remove es hole) (holes - 1) capacity
+  closed_index es from hole holes capacity index h =
+      let cut = cut_at es hole h.within in
+      let is = remove_round es cut.before cut.after cut.item hole cut.parts cut.place in
+      let stands = ap length (closed_stands es from hole h) in
+      let more : 1 ≤ holes = omega (arith, index.counted, stands, standing_few (remove es hole), ap length is, length-append cut.before cut.after, ap length cut.parts, length-append cut.before (cut.item ∷ cut.after)) in (
+        more,
+        record {
+          rises = subst (Rises cmp) (sym is) (rises_out cmp total cut.before cut.after cut.item (subst (Rises cmp) cut.parts index.rises));
+          counted = omega (arith, more, index.counted, stands, ap length is, length-append cut.before cut.after, ap length cut.parts, length-append cut.before (cut.item ∷ cut.after));
+          few = omega (arith, index.few);
+          room = index.room;
+        },
+      )
+
+  -- the place of a name that is before a hole stays when the hole is closed
+  pub gap_closed : (es : List (K × Option ℕ)) (name : K) (at hole : ℕ) → IsGapAt cmp es name at → IsHole es at hole → IsGapAt cmp (remove es hole) name at
+  gap_closed es name at hole h e =
+      let k = h.gap.0 in
+      let cut = cut_at es hole e.within in
+      let is = remove_round es cut.before cut.after cut.item hole cut.parts cut.place in
+      elim (append-cut k.before k.after cut.before cut.item cut.after (sym k.parts ∙ cut.parts)) [
+        | inl front ↦ absurd (omega (arith, e.order, h.gap.1, cut.place, ap length front.front, length-append cut.before (cut.item ∷ front.more)))
+        | inr back ↦
+            let greater = subst (Each (λ (f : K × Option ℕ). cmp f.0 name ≡ Greater)) back.back k.greater in
+            record {
+              in_range = omega (arith, h.gap.1, ap length is, length-append cut.before cut.after, ap length back.front, length-append k.before back.more);
+              gap = (
+                record {
+                  before = k.before;
+                  after = back.more ++ cut.after;
+                  smaller = k.smaller;
+                  greater = Each-both (λ (f : K × Option ℕ). cmp f.0 name ≡ Greater) back.more cut.after (Each-front (λ (f : K × Option ℕ). cmp f.0 name ≡ Greater) back.more (cut.item ∷ cut.after) greater) (Each-back (λ (f : K × Option ℕ). cmp f.0 name ≡ Greater) back.more (cut.item ∷ cut.after) greater).1;
+                  parts = is ∙ ap (λ us. us ++ cut.after) back.front ∙ append_assoc k.before back.more cut.after;
+                },
+                h.gap.1,
+              );
+            }
+      ]

@@ -1,5 +1,5 @@
 -- Names of which some were taken out and still lie among the others, as holes.
-use Rattle.std.specs.Prelude.{◌≡◌, ℕ, ◌+◌, ◌<◌, ◌≤◌, List, [], ◌∷◌, length, Option, Some, None}
+use Rattle.std.specs.Prelude.{◌≡◌, ℕ, ◌+◌, ◌<◌, ◌≤◌, List, [], ◌∷◌, length, slice_index_or, Option, Some, None}
 use Rattle.std.specs.declared.cmp.Ordering.{Ordering}
 use Rattle.t7_levels.specs.Named.{Rises}
 
@@ -14,9 +14,15 @@ module _ {K : Type 0} where
   standing [] = []
   standing (e ∷ es) = with_slot e.0 e.1 (standing es)
 
-  -- the names rise, the holes are so many and fewer than 256, and there is room for 20,000 names beside them
+  -- the names rise, the holes are so many and fewer than 512, and there is room for 20,000 names beside them
   pub record IsIndex (cmp : K → K → Ordering) (entries : List (K × Option ℕ)) (holes capacity : ℕ) : Type 0 where
     pub rises : Rises cmp entries
     pub counted : length entries ≡ length (standing entries) + holes
-    pub few : holes < 256
-    pub room : 20_256 ≤ capacity
+    pub few : holes < 512
+    pub room : 20_512 ≤ capacity
+
+  -- the entry at this place, which isn't before that one, has no slot
+  pub record IsHole (entries : List (K × Option ℕ)) (from hole : ℕ) : Type 0 where
+    pub order : from ≤ hole
+    pub within : hole < length entries
+    pub empty : (d : K × Option ℕ) → (slice_index_or entries hole d).1 ≡ None
