@@ -15,9 +15,11 @@ ghost use Rattle.t7_entry.specs.Stalls.{IsOpen, IsShut, Stalls, front_treated, t
 ghost use Rattle.t7_feed.specs.Arrivals.{AreTerms};
 ghost use Rattle.t7_feed.specs.Sending.{AreRanged};
 ghost use Rattle.t7_exchange.specs.Handed.{FirstIsSaid, first_handed, first_refused_for, first_written};
-ghost use Rattle.t7_exchange.specs.Outbox.{IsPut};
+ghost use Rattle.t7_book.specs.Orders.{roster_of};
+ghost use Rattle.t7_exchange.specs.Outbox.{IsPut, empty_outbox};
 ghost use Rattle.t7_exchange.specs.Paired.{ArePaired};
 ghost use Rattle.t7_exchange.specs.Sending.{IsSent, IsSnapped};
+ghost use Rattle.t7_exchange.specs.Trading.{fresh_desk};
 
 use crate::desk::Desk;
 use crate::outbox::Outbox;
@@ -109,16 +111,33 @@ impl<'t> Exchange<'t> {
     ) -> Result<Exchange<'t>, AllocError>
         ensures { IfOk result (λ e. e ≡ new_day (record { layouts = table.now; listing = product.now })) }
     {
+        let desk = Desk::new(alloc, product)?;
+        let outbox = Outbox::new(alloc, table, product)?;
+        Ok(Exchange::of(alloc, table, product, desk, outbox))
+    }
+
+    // An exchange of a desk that accepted nothing and an outbox that told nothing.
+    fn of(
+        alloc: Global,
+        table: &'t Table,
+        product: &'t Product,
+        desk: Desk,
+        outbox: Outbox<'t>,
+    ) -> Exchange<'t>
+        requires desk { desk ≡ fresh_desk (roster_of product.now) }
+        requires outbox { outbox ≡ empty_outbox (record { layouts = table.now; listing = product.now }) outbox.spare outbox.cycle.spare }
+        ensures { result ≡ new_day (record { layouts = table.now; listing = product.now }) }
+    {
         let _templates = table.templates();
         let _sessions = product.sessions();
-        Ok(Exchange {
+        Exchange {
             alloc,
             table,
             product,
-            desk: Desk::new(alloc, product)?,
+            desk,
             wires: Wires::new(alloc),
-            outbox: Outbox::new(alloc, table, product)?,
-        })
+            outbox,
+        }
     }
 
     /// Whether a connection is open.
