@@ -105,14 +105,16 @@ fn takes(rt: &impl Abort, member: &mut Member<'_>, feed: Feed, bytes: &[u8]) {
 /// The member shows this, and these buys in this order.
 fn shows(rt: &impl Abort, member: &Member<'_>, state: State, buys: &[Buy]) {
     assert_eq!(rt; member.status(), state);
-    assert_eq!(rt; member.orders().count(), buys.len());
-    for (order, buy) in member.orders().zip(buys) {
+    let mut orders = member.orders();
+    for buy in buys {
+        let order = orders.next().expect(rt, "an order");
         assert_eq!(rt; order.security, SecurityId(1001));
         assert_eq!(rt; order.side, Side::Buy);
         assert_eq!(rt; order.stamp.get(), buy.2);
         assert_eq!(rt; i128::from(order.price.get()), i128::from(buy.0));
         assert_eq!(rt; i128::from(order.qty.get()), i128::from(buy.1));
     }
+    assert!(rt; orders.next().is_none());
 }
 
 /// A day: buy k is its message k; and its book at the end, in the order of the book.
