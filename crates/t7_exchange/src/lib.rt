@@ -9,8 +9,6 @@ mod pieces;
 mod replies;
 mod sent;
 mod serving;
-#[cfg(test)]
-mod tests;
 mod wires;
 
 pub use exchange::Exchange;
