@@ -17,16 +17,16 @@ use Rattle.t7_base.specs.declared.product.ProductWhy.{ProductWhy}
 use Rattle.t7_base.specs.declared.product.ProductWhy.TheVariants as why
 use Rattle.t7_base.specs.ProductFile.{ProductFault, Range, fails_columns, fails_duplicate, fails_key, fails_number, fault_at, fault_of, first_of, fixed_range, is_of, is_security, is_session, is_within, least_fault, listed_before, number_in, product_of, securities_in, security_of, security_range, session_of, session_range, sessions_in, tick_of, tick_range, ticks_in}
 use Rattle.t7_base.specs.Listing.{IsListing, Listing}
-use Rattle.t7_base.specs.ProductLists.{AreLists, Lists, lists_before}
+use Rattle.t7_base.specs.ProductLists.{AreProductRows, ProductRows, lists_before}
 
 -- the lists that were read, one by one
-pub securities_are : (l : Lists) (rows : List Record) (at : ℕ) → l ≡ lists_before rows at → l.securities ≡ securities_in (listed_before rows at)
+pub securities_are : (l : ProductRows) (rows : List Record) (at : ℕ) → l ≡ lists_before rows at → l.securities ≡ securities_in (listed_before rows at)
 unfolding lists_before
-securities_are l rows at e = ap (λ (x : Lists). x.securities) e
+securities_are l rows at e = ap (λ (x : ProductRows). x.securities) e
 
-pub sessions_are : (l : Lists) (rows : List Record) (at : ℕ) → l ≡ lists_before rows at → l.sessions ≡ sessions_in (listed_before rows at)
+pub sessions_are : (l : ProductRows) (rows : List Record) (at : ℕ) → l ≡ lists_before rows at → l.sessions ≡ sessions_in (listed_before rows at)
 unfolding lists_before
-sessions_are l rows at e = ap (λ (x : Lists). x.sessions) e
+sessions_are l rows at e = ap (λ (x : ProductRows). x.sessions) e
 
 pub key_of_security : (rows : List Record) (at : ℕ) → 4 ≤ at → is_security (record_at rows at) ≡ true
     → fails_key rows at ≡ (nat_lt 0 (length (sessions_in (listed_before rows at))) || nat_le 1000 (length (securities_in (listed_before rows at))))
@@ -140,7 +140,7 @@ pub lists_none : (rows : List Record) (at : ℕ) → at < 4 → lists_before row
 unfolding lists_before
 lists_none rows at h = rw (listed_none rows at (omega arith), listed_none rows (at + 1) (omega arith)) refl
 
-pub no_lists : (rows : List Record) → (let l : Lists = record { securities = []; ticks = []; sessions = [] } in l) ≡ lists_before rows 0
+pub no_lists : (rows : List Record) → (let l : ProductRows = record { securities = []; ticks = []; sessions = [] } in l) ≡ lists_before rows 0
 unfolding lists_before securities_in ticks_in sessions_in
 no_lists rows = rw (listed_none rows 0 (omega arith)) refl
 
@@ -150,7 +150,7 @@ not_both row s = let word : cell row 0 ≡ codes "security" = (bytes_eq-Decides 
 
 module _ (rows : List Record) (at : ℕ) (h : 4 ≤ at) (inside : at < length rows) where
   pub with_security : is_security (record_at rows at) ≡ true
-      → (let l : Lists = record {
+      → (let l : ProductRows = record {
         securities = (lists_before rows at).securities ++ security_of (record_at rows at) ∷ [];
         ticks = (lists_before rows at).ticks ++ tick_of (record_at rows at) ∷ [];
         sessions = (lists_before rows at).sessions;
@@ -171,7 +171,7 @@ module _ (rows : List Record) (at : ℕ) (h : 4 ≤ at) (inside : at < length ro
       ) refl
 
   pub with_session : is_security (record_at rows at) ≡ false → is_session (record_at rows at) ≡ true
-      → (let l : Lists = record {
+      → (let l : ProductRows = record {
         securities = (lists_before rows at).securities;
         ticks = (lists_before rows at).ticks;
         sessions = (lists_before rows at).sessions ++ session_of (record_at rows at) ∷ [];
@@ -249,7 +249,7 @@ session_fits rows at h s p =
     word false e h = let wrong = rw e at h in cc wrong
 
 -- the limits of the lists stand at the beginning, and with each security and session more
-pub no_lists_are : AreLists (record { securities = []; ticks = []; sessions = [] })
+pub no_lists_are : AreProductRows (record { securities = []; ticks = []; sessions = [] })
 unfolding IsDistinct
 no_lists_are = record {
   securities = omega arith;
@@ -273,10 +273,10 @@ swapped_int : (zs : List ℤ) (y : ℤ) → list_any (λ z. int_eq z y) zs ≡ l
 swapped_int [] y = refl
 swapped_int (z ∷ zs) y = rw (int_eq_equiv.symm z y, swapped_int zs y) refl
 
-pub lists_with_security : (l : Lists) (security tick : ℤ) → AreLists l → length l.securities < 1000
+pub lists_with_security : (l : ProductRows) (security tick : ℤ) → AreProductRows l → length l.securities < 1000
     → (pos 1 ≤ℤ security) × (security ≤ℤ pos 1_000_000_000_000_000_000) → (pos 1 ≤ℤ tick) × (tick ≤ℤ pos 100_000_000_000_000_000)
     → list_any (λ z. int_eq z security) l.securities ≡ false
-    → AreLists (record { securities = l.securities ++ security ∷ []; ticks = l.ticks ++ tick ∷ []; sessions = l.sessions })
+    → AreProductRows (record { securities = l.securities ++ security ∷ []; ticks = l.ticks ++ tick ∷ []; sessions = l.sessions })
 lists_with_security l security tick a few s t absent = record {
   securities = simp length-append (omega arith);
   security = λ z h. ⊎_elim (λ there. a.security z there) (λ e. let P : ℤ → Type 0 = λ z. (pos 1 ≤ℤ z) × (z ≤ℤ pos 1_000_000_000_000_000_000) in subst P e s) (Contains-push_cases l.securities security z h);
@@ -293,9 +293,9 @@ swapped_nat : (ns : List ℕ) (m : ℕ) → list_any (λ n. n == m) ns ≡ list_
 swapped_nat [] m = refl
 swapped_nat (n ∷ ns) m = rw (nat_eq_equiv.symm n m, swapped_nat ns m) refl
 
-pub lists_with_session : (l : Lists) (session : ℕ) → AreLists l → length l.sessions < 64 → (1 ≤ session) × (session ≤ 4_000_000_000)
+pub lists_with_session : (l : ProductRows) (session : ℕ) → AreProductRows l → length l.sessions < 64 → (1 ≤ session) × (session ≤ 4_000_000_000)
     → list_any (λ n. n == session) l.sessions ≡ false → 0 < length l.securities
-    → AreLists (record { securities = l.securities; ticks = l.ticks; sessions = l.sessions ++ session ∷ [] })
+    → AreProductRows (record { securities = l.securities; ticks = l.ticks; sessions = l.sessions ++ session ∷ [] })
 lists_with_session l session a few s absent begun = record {
   securities = a.securities;
   security = a.security;
@@ -309,11 +309,11 @@ lists_with_session l session a few s absent begun = record {
 }
 
 -- the same, for lists that are known by equations
-pub adds_security : (l : Lists) (securities ticks : List ℤ) (security tick : ℤ) → AreLists l → length l.securities < 1000
+pub adds_security : (l : ProductRows) (securities ticks : List ℤ) (security tick : ℤ) → AreProductRows l → length l.securities < 1000
     → (pos 1 ≤ℤ security) × (security ≤ℤ pos 1_000_000_000_000_000_000) → (pos 1 ≤ℤ tick) × (tick ≤ℤ pos 100_000_000_000_000_000)
     → list_any (λ z. int_eq z security) l.securities ≡ false
     → securities ≡ l.securities ++ security ∷ [] → ticks ≡ l.ticks ++ tick ∷ []
-    → AreLists (record { securities = securities; ticks = ticks; sessions = l.sessions })
+    → AreProductRows (record { securities = securities; ticks = ticks; sessions = l.sessions })
 adds_security l securities ticks security tick a few s t absent e f = rw (e, f) (lists_with_security l security tick a few s t absent)
 
 -- the fault of a whole file
@@ -323,17 +323,17 @@ pub found : (rows : List Record) (at : ℕ) (why : ProductWhy) → at < length r
 unfolding fault_of
 found rows at why h e f = rw (e, least_found (fault_at rows) at (length rows - at) why (omega arith) f) refl
 
-whole : (rows : List Record) → lists_before rows (length rows) ≡ (let l : Lists = record { securities = securities_in (drop 4 rows); ticks = ticks_in (drop 4 rows); sessions = sessions_in (drop 4 rows) } in l)
+whole : (rows : List Record) → lists_before rows (length rows) ≡ (let l : ProductRows = record { securities = securities_in (drop 4 rows); ticks = ticks_in (drop 4 rows); sessions = sessions_in (drop 4 rows) } in l)
 unfolding lists_before listed_before
 whole rows = rw (take_all (length rows) rows (omega arith)) refl
 
-module _ (rows : List Record) (l : Lists) (read : l ≡ lists_before rows (length rows))
+module _ (rows : List Record) (l : ProductRows) (read : l ≡ lists_before rows (length rows))
     (faults : least_fault (fault_at rows) 0 (length rows) ≡ least_fault (fault_at rows) (length rows) (length rows - length rows)) where
   none : least_fault (fault_at rows) 0 (length rows) ≡ None
   none = faults ∙ least_none (fault_at rows) (length rows) (length rows - length rows) (omega arith)
 
   sessions_of : l.sessions ≡ sessions_in (drop 4 rows)
-  sessions_of = ap (λ (x : Lists). x.sessions) (read ∙ whole rows)
+  sessions_of = ap (λ (x : ProductRows). x.sessions) (read ∙ whole rows)
 
   pub missing : length l.sessions ≡ 0 → fault_of rows ≡ Some (record { row = length rows + 1; why = why.Missing })
   unfolding fault_of
@@ -347,7 +347,7 @@ module _ (rows : List Record) (l : Lists) (read : l ≡ lists_before rows (lengt
       let t : (length (sessions_in (drop 4 rows)) == 0) ≡ false = rw (← sessions_of) (grind (arith, nat_tests)) in
       rw (none, t) refl
 
-pub long : (rows : List Record) (l : Lists) → l ≡ lists_before rows (length rows) → 0 < length l.sessions → 4 < length rows
+pub long : (rows : List Record) (l : ProductRows) → l ≡ lists_before rows (length rows) → 0 < length l.sessions → 4 < length rows
 unfolding lists_before sessions_in
 long rows l read h = ⊎_elim (λ long. long) (λ short. absurd (by (length rows) short read)) (cases_lt 4 (length rows))
   where
@@ -360,9 +360,9 @@ long rows l read h = ⊎_elim (λ long. long) (λ short. absurd (by (length rows
         omega arith
 
 -- the product of a whole file
-pub is_listing : (segment window packets datagram : ℕ) (l : Lists)
+pub is_listing : (segment window packets datagram : ℕ) (l : ProductRows)
     → (1 ≤ segment) × (segment ≤ 2_147_483_647) → (1 ≤ window) × (window ≤ 65_536) → (1 ≤ packets) × (packets ≤ 4_096) → (256 ≤ datagram) × (datagram ≤ 1_472)
-    → AreLists l → 0 < length l.sessions
+    → AreProductRows l → 0 < length l.sessions
     → IsListing (record { segment = segment; window = window; packets = packets; datagram = datagram; securities = l.securities; ticks = l.ticks; sessions = l.sessions })
 is_listing segment window packets datagram l s w p d a some = record {
   segment = s;
@@ -379,7 +379,7 @@ is_listing segment window packets datagram l s w p d a some = record {
   each_session_once = a.each_session_once;
 }
 
-pub product_is : (rows : List Record) (l : Lists) → l ≡ lists_before rows (length rows)
+pub product_is : (rows : List Record) (l : ProductRows) → l ≡ lists_before rows (length rows)
     → (let p : Listing = record {
       segment = number_in (fixed_range 0) (cell (record_at rows 0) 1);
       window = number_in (fixed_range 1) (cell (record_at rows 1) 1);

@@ -6,13 +6,13 @@ use Rattle.t7_records.specs.Records.{Record}
 use Rattle.t7_base.specs.ProductFile.{listed_before, securities_in, sessions_in, ticks_in}
 
 -- the securities, their price steps and the sessions that were read so far
-pub record Lists : Type 0 where
+pub record ProductRows : Type 0 where
   pub securities : List ℤ
   pub ticks : List ℤ
   pub sessions : List ℕ
 
 -- the lists of the records before a place
-unfoldable pub lists_before : List Record → ℕ → Lists
+unfoldable pub lists_before : List Record → ℕ → ProductRows
 lists_before rows at = record {
   securities = securities_in (listed_before rows at);
   ticks = ticks_in (listed_before rows at);
@@ -20,7 +20,7 @@ lists_before rows at = record {
 }
 
 -- the limits of the lists, however far they have been read
-pub record AreLists (l : Lists) : Type 0 where
+pub record AreProductRows (l : ProductRows) : Type 0 where
   pub securities : length l.securities ≤ 1_000
   pub security : (z : ℤ) → Contains l.securities z → (pos 1 ≤ℤ z) × (z ≤ℤ pos 1_000_000_000_000_000_000)
   pub each_once : IsDistinct int_eq l.securities

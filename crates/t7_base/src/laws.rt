@@ -1,4 +1,4 @@
-// Laws of the definitions.
+//! Laws of the definitions.
 
 ghost use Rattle.std.specs.Prelude.{◌≡◌, ◌≢◌, ◌↔◌, ◌++◌, List, ℕ, All, None, Some};
 ghost use Rattle.std.specs.List.{concat};

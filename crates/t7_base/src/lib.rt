@@ -21,7 +21,7 @@ pub use laws::{
 pub use memory::{MemoryFiles, MemorySink};
 pub use octet::Octets;
 pub use outside::{Failed, Files, Sink, Taken};
-pub use product::{Product, ProductRefusal, ProductWhy};
+pub use product::{MOST_DATAGRAM, Product, ProductRefusal, ProductWhy};
 pub use public::{Public, Resting};
 pub use real::{RealFiles, RealSink};
 pub use values::{Moment, Price, Qty, Stamp};

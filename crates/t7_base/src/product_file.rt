@@ -7,9 +7,9 @@ ghost use Rattle.t7_records.specs.Records.{cell, record_at};
 ghost use Rattle.t7_base.specs.Listing.{Listing, IsListing};
 ghost use Rattle.t7_base.specs.ProductFile.{Range as Bounds, fails_columns, fails_duplicate, fails_key, fails_number, fault_at, fault_of, fixed_range, fixed_word, is_of, is_security, is_session, is_within, number_in, product_of, security_of, security_range, session_of, session_range, tick_of, tick_range};
 ghost use Rattle.t7_base.specs.ProductRefusals.{IsRefusalOf};
-ghost use Rattle.t7_base.specs.ProductLists.{AreLists, Lists, lists_before};
+ghost use Rattle.t7_base.specs.ProductLists.{AreProductRows, ProductRows, lists_before};
 
-use crate::product::{ProductRefusal, ProductWhy};
+use crate::product::{MOST_DATAGRAM, ProductRefusal, ProductWhy};
 use crate::{SecurityId, SessionId};
 use std::alloc::{AllocError, Global};
 use std::marker::Model;
@@ -49,7 +49,6 @@ fn from_to(least: u64, most: u64) -> Range
 }
 
 /// The range of the number in one of the first four records.
-#[tactic(auto, unfolding(crate::specs::ProductFile::fixed_range))]
 fn fixed_range(at: usize) -> Range
     ensures least { result.least ≡ (fixed_range at).least }
     ensures most { result.most ≡ (fixed_range at).most }
@@ -59,12 +58,11 @@ fn fixed_range(at: usize) -> Range
         0 => from_to(1, 2_147_483_647),
         1 => from_to(1, 65_536),
         2 => from_to(1, 4_096),
-        _ => from_to(256, 1_472),
+        _ => from_to(256, MOST_DATAGRAM as u64),
     }
 }
 
 /// The word of one of the first four records.
-#[tactic(auto, unfolding(crate::specs::ProductFile::fixed_word))]
 fn fixed_word(at: usize) -> &'static [u8]
     ensures { result.now ≡ fixed_word at }
 {
@@ -77,7 +75,6 @@ fn fixed_word(at: usize) -> &'static [u8]
 }
 
 /// Whether a record begins with a word.
-#[tactic(auto, unfolding(crate::specs::ProductFile::is_of))]
 fn is_of(rows: &Records, at: usize, word: &[u8]) -> bool
     requires { at < length rows.now }
     ensures { result ≡ is_of word.now (record_at rows.now at) }
@@ -85,7 +82,6 @@ fn is_of(rows: &Records, at: usize, word: &[u8]) -> bool
     rows.cell(at, 0) == word
 }
 
-#[tactic(auto, unfolding(crate::specs::ProductFile::is_security))]
 fn is_security(rows: &Records, at: usize) -> bool
     requires { at < length rows.now }
     ensures { result ≡ is_security (record_at rows.now at) }
@@ -93,7 +89,6 @@ fn is_security(rows: &Records, at: usize) -> bool
     is_of(rows, at, b"security")
 }
 
-#[tactic(auto, unfolding(crate::specs::ProductFile::is_session))]
 fn is_session(rows: &Records, at: usize) -> bool
     requires { at < length rows.now }
     ensures { result ≡ is_session (record_at rows.now at) }
@@ -102,7 +97,6 @@ fn is_session(rows: &Records, at: usize) -> bool
 }
 
 /// Whether a cell is a plain decimal within a range.
-#[tactic(auto, unfolding(crate::specs::ProductFile::is_within))]
 fn is_within(range: Range, word: &[u8]) -> bool
     ensures { result ≡ is_within (record { least = range.least; most = range.most }) word.now }
 {
@@ -110,7 +104,6 @@ fn is_within(range: Range, word: &[u8]) -> bool
 }
 
 /// The number of a cell within a range.
-#[tactic(auto, unfolding(crate::specs::ProductFile::number_in, crate::specs::ProductFile::is_within))]
 fn number_in(range: Range, word: &[u8]) -> u64
     ensures value { result ≡ number_in (record { least = range.least; most = range.most }) word.now }
     ensures most { result ≤ range.most }
@@ -130,7 +123,6 @@ pub(crate) fn fixed_number(rows: &Records, at: usize) -> u32
     number_in(fixed_range(at), rows.cell(at, 1)) as u32
 }
 
-#[tactic(auto, unfolding(crate::specs::ProductFile::security_of, crate::specs::ProductFile::security_range))]
 fn security_of(rows: &Records, at: usize) -> SecurityId
     requires { at < length rows.now }
     ensures value { result ≡ security_of (record_at rows.now at) }
@@ -139,7 +131,6 @@ fn security_of(rows: &Records, at: usize) -> SecurityId
     SecurityId(number_in(SECURITY, rows.cell(at, 1)) as i64)
 }
 
-#[tactic(auto, unfolding(crate::specs::ProductFile::tick_of, crate::specs::ProductFile::tick_range))]
 fn tick_of(rows: &Records, at: usize) -> i64
     requires { at < length rows.now }
     ensures value { result ≡ tick_of (record_at rows.now at) }
@@ -148,7 +139,6 @@ fn tick_of(rows: &Records, at: usize) -> i64
     number_in(TICK, rows.cell(at, 2)) as i64
 }
 
-#[tactic(auto, unfolding(crate::specs::ProductFile::session_of, crate::specs::ProductFile::session_range))]
 fn session_of(rows: &Records, at: usize) -> SessionId
     requires { at < length rows.now }
     ensures value { result ≡ session_of (record_at rows.now at) }
@@ -159,36 +149,35 @@ fn session_of(rows: &Records, at: usize) -> SessionId
 
 /// The securities, their price steps and the sessions of the records so far.
 #[derive(Drop)]
-pub struct Listed {
+pub struct ProductEntries {
     pub securities: Vec<SecurityId>,
     pub ticks: Vec<i64>,
     pub sessions: Vec<SessionId>,
 }
 
-impl Model for Listed {
-    ghost use Rattle.t7_base.specs.ProductLists.{Lists};
+impl Model for ProductEntries {
+    ghost use Rattle.t7_base.specs.ProductLists.{ProductRows};
 
-    ghost Value = { Lists };
+    ghost Value = { ProductRows };
 
     ghost view = { λ l. record { securities = l.securities.items; ticks = l.ticks.items; sessions = l.sessions.items } };
 
-    ghost use Rattle.t7_base.specs.ProductLists.{AreLists};
+    ghost use Rattle.t7_base.specs.ProductLists.{AreProductRows};
 
-    ghost invariant = { λ l. AreLists (record { securities = l.securities.items; ticks = l.ticks.items; sessions = l.sessions.items }) };
+    ghost invariant = { λ l. AreProductRows (record { securities = l.securities.items; ticks = l.ticks.items; sessions = l.sessions.items }) };
 }
 
-impl Listed {
-    fn new(alloc: Global) -> Listed
+impl ProductEntries {
+    fn new(alloc: Global) -> ProductEntries
         ensures { result ≡ record { securities = []; ticks = []; sessions = [] } }
     {
-        Listed {
+        ProductEntries {
             securities: Vec::new(alloc),
             ticks: Vec::new(alloc),
             sessions: Vec::new(alloc),
         }
     }
 
-    #[tactic(auto, unfolding(crate::specs::ProductFile::fails_key))]
     fn fails_key(&self, rows: &Records, at: usize) -> bool
         requires inside { at < length rows.now }
         requires listed { self.now ≡ lists_before rows.now at }
@@ -206,7 +195,6 @@ impl Listed {
         true
     }
 
-    #[tactic(auto, unfolding(crate::specs::ProductFile::fails_duplicate))]
     fn fails_duplicate(&self, rows: &Records, at: usize) -> bool
         requires inside { at < length rows.now }
         requires listed { self.now ≡ lists_before rows.now at }
@@ -222,7 +210,6 @@ impl Listed {
     }
 
     /// The first test that a record fails.
-    #[tactic(auto, unfolding(crate::specs::ProductFile::fault_at))]
     fn fault_at(&self, rows: &Records, at: usize) -> Option<ProductWhy>
         requires inside { at < length rows.now }
         requires listed { self.now ≡ lists_before rows.now at }
@@ -287,7 +274,6 @@ impl Listed {
     }
 }
 
-#[tactic(auto, unfolding(crate::specs::ProductFile::fails_columns))]
 fn fails_columns(rows: &Records, at: usize) -> bool
     requires { at < length rows.now }
     ensures { result ≡ fails_columns rows.now at }
@@ -301,7 +287,6 @@ fn fails_columns(rows: &Records, at: usize) -> bool
     rows.width(at) != 2
 }
 
-#[tactic(auto, unfolding(crate::specs::ProductFile::fails_number, crate::specs::ProductFile::security_range, crate::specs::ProductFile::tick_range, crate::specs::ProductFile::session_range))]
 fn fails_number(rows: &Records, at: usize) -> bool
     requires { at < length rows.now }
     ensures { result ≡ fails_number rows.now at }
@@ -316,16 +301,16 @@ fn fails_number(rows: &Records, at: usize) -> bool
 }
 
 /// The lists of a whole file, or its first fault.
-pub(crate) fn read_listed(alloc: Global, rows: &Records) -> Result<Listed, ProductRefusal>
+pub(crate) fn read_listed(alloc: Global, rows: &Records) -> Result<ProductEntries, ProductRefusal>
     requires { length rows.now + 1 < 2 ^ 32 }
     ensures lists { IfOk result (λ l. l ≡ lists_before rows.now (length rows.now)) }
-    ensures limits { IfOk result AreLists }
+    ensures limits { IfOk result AreProductRows }
     ensures some { IfOk result (λ l. 0 < length l.sessions) }
     ensures long { OnOk result (4 < length rows.now) }
     ensures fault { IfErr result (IsRefusalOf (fault_of rows.now)) }
     ensures valid { OnOk result (fault_of rows.now ≡ None) }
 {
-    let mut listed = Listed::new(alloc);
+    let mut listed = ProductEntries::new(alloc);
     for at in 0..rows.len() {
         if let Some(why) = listed.fault_at(rows, at) {
             return Err(ProductRefusal::Fault {

@@ -1,3 +1,5 @@
+//! The forms in memory and the real ones, at their calls.
+
 use super::*;
 use std::alloc::AllocError;
 use std::test::Fail;

@@ -1,4 +1,4 @@
-// The bytes of a connection that are not treated yet, and the frame at their front.
+//! The bytes of a connection that are not treated yet, and the frame at their front.
 
 ghost use Rattle.std.specs.Prelude.{◌≡◌, ℕ, List, ◌+◌, ◌-◌, ◌≤◌, ◌++◌, [], length, take, drop, min, max, vec_len, vec_capacity, IfOk};
 ghost use Rattle.std.specs.Borrow.{sem};
@@ -152,7 +152,6 @@ fn front_frame(bytes: &[u8]) -> Frame<'_>
 }
 
 // The length that the first four bytes spell.
-#[tactic(auto, unfolding(crate::specs::Frames::body_len))]
 fn spelled(bytes: &[u8]) -> u32
     requires { 4 ≤ length bytes.now }
     ensures { result ≡ body_len bytes.now }

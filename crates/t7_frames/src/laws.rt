@@ -1,4 +1,4 @@
-// What always holds of the frames of a stream.
+//! What always holds of the frames of a stream.
 
 ghost use Rattle.std.specs.Prelude.{◌≡◌, ℕ, List, ◌<◌, ◌++◌, [], length};
 ghost use Rattle.std.specs.List.{concat};

@@ -1,4 +1,4 @@
-// A stream in pieces is split as its frames say, and the front is told as the manual's lengths say.
+//! A stream in pieces is split as its frames say, and the front is told as the manual's lengths say.
 
 ghost use Rattle.std.specs.Prelude.{◌≡◌, ◌+◌, ◌<◌, ◌≤◌, ◌++◌, length, take, IfOk, OnOk};
 ghost use Rattle.std.specs.List.{AllByRecursion, concat, flat_map};

@@ -55,5 +55,5 @@ abbrev pub cast_by : Feed → List ℕ → Casting
 cast_by feed bytes = record { feed = feed; bytes = bytes }
 
 -- what the notes say, each by its kind and its bytes
-abbrev pub said : {K A : Type 0} → (K → List ℕ → A) → Option (List (Note K)) → Option (List A)
-said by told = option_map (map (λ note. by note.kind note.bytes)) told
+abbrev pub calls_by : {K A : Type 0} → (K → List ℕ → A) → Option (List (Note K)) → Option (List A)
+calls_by by told = option_map (map (λ note. by note.kind note.bytes)) told

@@ -8,7 +8,7 @@ ghost use Rattle.t7_memory.specs.Rooms.{CallFails, PassesRoom, failed, passed, u
 ghost use Rattle.t7_net.specs.Lines.{Fits, line_taken};
 
 use crate::kinds::Binding;
-use crate::note::Notes;
+use crate::note::CallNotes;
 use crate::room::{Going, Room};
 use std::alloc::{AllocError, Global};
 use std::marker::Model;
@@ -24,22 +24,22 @@ pub struct MemoryLines {
     items: Vec<LineItem>,
     /// How many bytes fitted, of each receipt that was taken.
     counts: Vec<usize>,
-    asked: Notes<Binding>,
-    cast: Notes<Feed>,
+    asked: CallNotes<Binding>,
+    cast: CallNotes<Feed>,
     room: Room,
 }
 
 impl Model for MemoryLines {
     ghost use Rattle.std.specs.Prelude.{◌+◌, ◌≤◌, drop, length, vec_len, vec_capacity};
     ghost use Rattle.t7_memory.specs.LinesStates.{LinesState, receipts_of};
-    ghost use Rattle.t7_memory.specs.Notes.{bound_by, cast_by, said};
+    ghost use Rattle.t7_memory.specs.Notes.{bound_by, cast_by, calls_by};
 
     ghost Value = { LinesState };
 
     ghost view = { λ s. record {
-      asked = said bound_by s.asked.told;
+      asked = calls_by bound_by s.asked.told;
       taken = receipts_of s.items.items s.counts.items;
-      cast = said cast_by s.cast.told;
+      cast = calls_by cast_by s.cast.told;
       left = drop (length s.counts.items) s.items.items;
       room = s.room;
     } };
@@ -71,8 +71,8 @@ impl MemoryLines {
         Ok(MemoryLines {
             items: receipts,
             counts: Vec::with_capacity(alloc, calls)?,
-            asked: Notes::new(alloc, calls, bytes)?,
-            cast: Notes::new(alloc, calls, bytes)?,
+            asked: CallNotes::new(alloc, calls, bytes)?,
+            cast: CallNotes::new(alloc, calls, bytes)?,
             room: Room::new(calls, bytes, failing),
         })
     }
@@ -143,7 +143,6 @@ impl Lines for MemoryLines {
 
     ghost faults = { λ s. s.room.faults };
 
-    #[tactic(auto, using(crate::proofs::Telling::bound_more, crate::proofs::Telling::more_grew))]
     fn bind(&mut self, feed: Feed, address: &str, listen: bool) -> Result<(), Failed>
         ensures asked { Grew self.old.asked self.new.asked (λ added.
             added ≡ record { feed = feed; address = address.now; listen = listen } ∷ []) }
@@ -209,7 +208,6 @@ impl Lines for MemoryLines {
         }
     }
 
-    #[tactic(auto, using(crate::proofs::Telling::cast_more, crate::proofs::Telling::more_grew))]
     fn cast(&mut self, feed: Feed, bytes: &[u8]) -> Result<(), Failed>
         ensures ok { OnOk result (Grew self.old.cast self.new.cast (λ added. added ≡ record { feed = feed; bytes = bytes.now } ∷ [])) }
         ensures err { OnErr result (self.new.cast ≡ self.old.cast) }

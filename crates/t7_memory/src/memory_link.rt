@@ -11,7 +11,7 @@ ghost use Rattle.t7_net.specs.Links.{Dialed, Listened, Gave, Shut, IsPiece, link
 
 use crate::cut::{Cut, count_of, first_left, front_of};
 use crate::kinds::{Asking, Sending};
-use crate::note::Notes;
+use crate::note::CallNotes;
 use crate::room::{Going, Room};
 use std::alloc::{AllocError, Global};
 use std::marker::Model;
@@ -30,8 +30,8 @@ pub struct MemoryLink {
     at: usize,
     start: usize,
     cuts: Vec<Cut>,
-    asked: Notes<Asking>,
-    sent: Notes<Sending>,
+    asked: CallNotes<Asking>,
+    sent: CallNotes<Sending>,
     dials: u32,
     room: Room,
 }
@@ -39,14 +39,14 @@ pub struct MemoryLink {
 impl Model for MemoryLink {
     ghost use Rattle.std.specs.Prelude.{◌+◌, ◌≤◌, drop, map, vec_len, vec_capacity};
     ghost use Rattle.t7_memory.specs.LinkStates.{LinkState, behind, cut_of, trimmed};
-    ghost use Rattle.t7_memory.specs.Notes.{asked_by, said, sent_by};
+    ghost use Rattle.t7_memory.specs.Notes.{asked_by, calls_by, sent_by};
 
     ghost Value = { LinkState };
 
     ghost view = { λ s. record {
-      asked = said asked_by s.asked.told;
+      asked = calls_by asked_by s.asked.told;
       events = map (cut_of s.items.items) s.cuts.items;
-      sent = said sent_by s.sent.told;
+      sent = calls_by sent_by s.sent.told;
       left = trimmed (behind s.start (drop s.at s.items.items));
       dials = s.dials;
       room = s.room;
@@ -82,8 +82,8 @@ impl MemoryLink {
             at: 0,
             start: 0,
             cuts: Vec::with_capacity(alloc, calls)?,
-            asked: Notes::new(alloc, calls, bytes)?,
-            sent: Notes::new(alloc, calls, bytes)?,
+            asked: CallNotes::new(alloc, calls, bytes)?,
+            sent: CallNotes::new(alloc, calls, bytes)?,
             dials: 0,
             room: Room::new(calls, bytes, failing),
         })
@@ -150,7 +150,6 @@ impl Link for MemoryLink {
 
     ghost faults = { λ s. s.room.faults };
 
-    #[tactic(auto, using(crate::proofs::Telling::asked_more, crate::proofs::Telling::more_grew))]
     fn listen(&mut self, address: &str) -> Result<(), Failed>
         ensures asked { Grew self.old.asked self.new.asked (λ added. added ≡ Listened address.now (is_ok result) ∷ []) }
         ensures events { Some self.new.events ≡ Some self.old.events }
@@ -188,7 +187,6 @@ impl Link for MemoryLink {
         }
     }
 
-    #[tactic(auto, using(crate::proofs::Telling::asked_more, crate::proofs::Telling::more_grew))]
     fn dial(&mut self, address: &str) -> Result<u32, Failed>
         ensures asked { Grew self.old.asked self.new.asked (λ added. added ≡ Dialed address.now (result_ok result) ∷ []) }
         ensures events { Some self.new.events ≡ Some self.old.events }
@@ -265,7 +263,6 @@ impl Link for MemoryLink {
         }
     }
 
-    #[tactic(auto, using(crate::proofs::Telling::sent_more, crate::proofs::Telling::more_grew))]
     fn send(&mut self, conn: u32, bytes: &[u8]) -> Result<(), Failed>
         ensures ok { OnOk result (Grew self.old.sent self.new.sent (λ added. added ≡ Gave conn bytes.now ∷ [])) }
         ensures err { OnErr result (Grew self.old.sent self.new.sent (λ added.
@@ -305,7 +302,6 @@ impl Link for MemoryLink {
         }
     }
 
-    #[tactic(auto, using(crate::proofs::Telling::sent_more, crate::proofs::Telling::more_grew))]
     fn close(&mut self, conn: u32)
         ensures sent { Grew self.old.sent self.new.sent (λ added. added ≡ Shut conn ∷ []) }
         ensures asked { self.new.asked ≡ self.old.asked }

@@ -8,7 +8,7 @@ use std::marker::Model;
 
 /// Notes of calls of one kind, until they are forgotten.
 #[derive(Drop)]
-pub struct Notes<K: Drop> {
+pub struct CallNotes<K: Drop> {
     kinds: Vec<K>,
     lengths: Vec<usize>,
     bytes: Vec<u8>,
@@ -17,7 +17,7 @@ pub struct Notes<K: Drop> {
     bytes_left: usize,
 }
 
-impl<K: Drop> Model for Notes<K> {
+impl<K: Drop> Model for CallNotes<K> {
     ghost use Rattle.std.specs.Prelude.{◌≡◌, ◌+◌, ◌≤◌, sum, length, vec_len, vec_capacity, Option, Some, None, if◌then◌else◌};
     ghost use Rattle.t7_memory.specs.Notes.{Noted, notes};
 
@@ -37,12 +37,12 @@ impl<K: Drop> Model for Notes<K> {
         × (vec_len n.bytes + n.bytes_left ≤ vec_capacity n.bytes) };
 }
 
-impl<K: Copy + Drop> Notes<K> {
+impl<K: Copy + Drop> CallNotes<K> {
     /// Room for so many calls and bytes.
-    pub fn new(alloc: Global, calls: usize, bytes: usize) -> Result<Notes<K>, AllocError>
+    pub fn new(alloc: Global, calls: usize, bytes: usize) -> Result<CallNotes<K>, AllocError>
         ensures { IfOk result (λ notes. notes ≡ record { told = Some []; calls = calls; bytes = bytes }) }
     {
-        Ok(Notes {
+        Ok(CallNotes {
             kinds: Vec::with_capacity(alloc, calls)?,
             lengths: Vec::with_capacity(alloc, calls)?,
             bytes: Vec::with_capacity(alloc, bytes)?,

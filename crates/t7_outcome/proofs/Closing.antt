@@ -8,7 +8,7 @@ use Rattle.t7_outcome.specs.declared.ending.Status.{Status}
 use Rattle.t7_outcome.specs.declared.ending.Status.TheVariants as status
 use Rattle.t7_outcome.specs.declared.ending.Stop.TheVariants.{ReadFault, WriteFault, NetFault, Memory}
 use Rattle.t7_outcome.specs.Ending.{Ended, status_of, last_lines}
-use Rattle.t7_outcome.specs.Outcome.{Fronts, LinesThen, Outcome, Part, Held, Given, Where, WroteLines, text_of, own_last, Ends, Spelled, Wrote, Answers, Due, Printed, Asked, AskedOf, Closes, ClosesAs}
+use Rattle.t7_outcome.specs.Outcome.{Fronts, LinesThen, Outcome, Part, FileSet, Given, Where, WroteLines, text_of, own_last, Ends, Spelled, Wrote, Answers, Due, Printed, Asked, AskedOf, Closes, ClosesAs}
 use Rattle.t7_outcome.proofs.Lines.{begins_after, begins_more, text_of-append}
 
 abbrev memory_line : List (List ℕ)
@@ -111,11 +111,11 @@ answers plain ended answer closing end = subst (λ (s : Status). Answers plain s
 
 -- The same where it is told what was given.
 
-where_both : (o : Option Held) (P Q R : Given → Type 0) → Where o P → Where o Q → ((g : Given) → P g → Q g → R g) → Where o R
+where_both : (o : Option FileSet) (P Q R : Given → Type 0) → Where o P → Where o Q → ((g : Given) → P g → Q g → R g) → Where o R
 where_both None P Q R p q both = tt
 where_both (Some held) P Q R p q both = both (record { files = held }) p q
 
-pub told_printed : {Moment : Type 0} (Shown : Moment → List (List ℕ) → Type 0) (o : Option Held) (a b c : Option (List ℕ)) (plain : Given → Outcome Moment) (ended : Ended) (answer : Status) → ended ≢ Err WriteFault
+pub told_printed : {Moment : Type 0} (Shown : Moment → List (List ℕ) → Type 0) (o : Option FileSet) (a b c : Option (List ℕ)) (plain : Given → Outcome Moment) (ended : Ended) (answer : Status) → ended ≢ Err WriteFault
     → Where o (λ g. Ends (plain g) ended) → Where o (λ g. Grew a b (Wrote Shown (plain g) ended)) → Grew b c (Closes ended answer) → ClosesAs ended answer
     → Where o (λ g. Grew a c (Printed Shown (plain g) answer))
 told_printed Shown o a b c plain ended answer uncut ends wrote closes closing =
@@ -123,20 +123,20 @@ told_printed Shown o a b c plain ended answer uncut ends wrote closes closing =
     (λ g end front. grew_then a b c (Wrote Shown (plain g) ended) (Closes ended answer) (Printed Shown (plain g) answer) front closes
     (λ xs ys first last. printed Shown (plain g) ended answer xs ys uncut end closing first last))
 
-pub told_printed_cut : {Moment : Type 0} (Shown : Moment → List (List ℕ) → Type 0) (o : Option Held) (a b : Option (List ℕ)) (plain : Given → Outcome Moment) (ended : Ended) → ended ≡ Err WriteFault
+pub told_printed_cut : {Moment : Type 0} (Shown : Moment → List (List ℕ) → Type 0) (o : Option FileSet) (a b : Option (List ℕ)) (plain : Given → Outcome Moment) (ended : Ended) → ended ≡ Err WriteFault
     → Where o (λ g. Grew a b (Wrote Shown (plain g) ended)) → Where o (λ g. Grew a b (Printed Shown (plain g) status.WriteFault))
 told_printed_cut Shown o a b plain ended cut wrote =
     where_both o (λ g. Grew a b (Wrote Shown (plain g) ended)) (λ g. Grew a b (Wrote Shown (plain g) ended)) (λ g. Grew a b (Printed Shown (plain g) status.WriteFault)) wrote wrote
     (λ g front _. grew_as a b (Wrote Shown (plain g) ended) (Printed Shown (plain g) status.WriteFault) front
     (λ xs first. printed_cut Shown (plain g) xs (subst (λ (e : Ended). Wrote Shown (plain g) e xs) cut first)))
 
-pub told_asked : {Moment : Type 0} (o : Option Held) (a b : Option (List (List ℕ))) (plain : Given → Outcome Moment) (ended : Ended) (answer : Status) → ClosesAs ended answer
+pub told_asked : {Moment : Type 0} (o : Option FileSet) (a b : Option (List (List ℕ))) (plain : Given → Outcome Moment) (ended : Ended) (answer : Status) → ClosesAs ended answer
     → Where o (λ g. Grew a b (Asked (plain g) (status_of ended))) → Where o (λ g. Grew a b (Asked (plain g) answer))
 told_asked o a b plain ended answer closing asked =
     where_both o (λ g. Grew a b (Asked (plain g) (status_of ended))) (λ g. Grew a b (Asked (plain g) (status_of ended))) (λ g. Grew a b (Asked (plain g) answer)) asked asked
     (λ g front _. grew_as a b (Asked (plain g) (status_of ended)) (Asked (plain g) answer) front (λ names. asked_closed (plain g) ended answer names closing))
 
-pub told_answer : {Moment : Type 0} (o : Option Held) (plain : Given → Outcome Moment) (ended : Ended) (answer : Status) → ClosesAs ended answer
+pub told_answer : {Moment : Type 0} (o : Option FileSet) (plain : Given → Outcome Moment) (ended : Ended) (answer : Status) → ClosesAs ended answer
     → Where o (λ g. Ends (plain g) ended) → Where o (λ g. Answers (plain g) answer)
 told_answer o plain ended answer closing ends =
     where_both o (λ g. Ends (plain g) ended) (λ g. Ends (plain g) ended) (λ g. Answers (plain g) answer) ends ends (λ g end _. answers (plain g) ended answer closing end)

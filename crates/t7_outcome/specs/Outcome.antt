@@ -10,15 +10,15 @@ use Rattle.t7_outcome.specs.declared.ending.Stop.TheVariants.{ReadFault, WriteFa
 use Rattle.t7_outcome.specs.Ending.{Ended, status_of, last_lines}
 
 -- files by their names
-abbrev pub Held : Type 0
-Held = List (List ℕ × List ℕ)
+abbrev pub FileSet : Type 0
+FileSet = List (List ℕ × List ℕ)
 
 -- what a run was given from outside
 pub record Given : Type 0 where
-  pub files : Held
+  pub files : FileSet
 
 -- P of what a run was given, where the files tell what they hold
-abbrev pub Where : Option Held → (Given → Type 0) → Type 0
+abbrev pub Where : Option FileSet → (Given → Type 0) → Type 0
 Where None P = Unit {0}
 Where (Some held) P = P (record { files = held })
 
@@ -84,7 +84,7 @@ within None = Err ReadFault
 within (Some bytes) = if nat_lt 16777216 (length bytes) then Err TooLong else Ok bytes
 
 -- the bytes of the file of that name
-abbrev pub fetched : List ℕ → Held → Result (List ℕ) Stop
+abbrev pub fetched : List ℕ → FileSet → Result (List ℕ) Stop
 fetched name held = within (file_of name held)
 
 -- what a file's bytes come to, where it has them
@@ -97,7 +97,7 @@ abbrev pub asking : {Moment : Type 0} → List ℕ → Outcome Moment → Outcom
 asking name later = record { names = name ∷ later.names; parts = later.parts; end = later.end }
 
 -- the file of that name is taken, and its bytes say what follows
-abbrev pub taking : {Moment : Type 0} → List ℕ → Held → (List ℕ → Outcome Moment) → Outcome Moment
+abbrev pub taking : {Moment : Type 0} → List ℕ → FileSet → (List ℕ → Outcome Moment) → Outcome Moment
 taking name held next = asking name (followed (fetched name held) next)
 
 -- How a command ended, before its last line: as its outcome says, but for a fault of the outside and want of memory.

@@ -1,5 +1,5 @@
 -- The cells of a record, as csv looks them up.
-use Rattle.std.proofs.Common.{◌≡◌, ◌<◌, ℕ, zero, suc, List, [], ◌∷◌, Option, Some, None, length, map, refl, ap, arith, get_or, sym}
+use Rattle.std.proofs.Common.{◌≡◌, ◌<◌, ℕ, zero, suc, List, [], ◌∷◌, Some, None, length, map, refl, ap, arith, get_or}
 use Rattle.csv.specs.Records.{field_at}
 use Rattle.t7_records.specs.Records.{Record, cell, record_at}
 

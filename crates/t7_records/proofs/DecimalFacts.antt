@@ -1,7 +1,7 @@
 -- The value of digits never falls.
-use Rattle.std.proofs.Common.{◌≡◌, ◌<◌, ◌≤◌, ◌+◌, ◌*◌, ◌-◌, ◌&&◌, ℕ, suc, List, [], ◌∷◌, Bool, true, false, refl, arith, length, drop, get_or, drop-cons, cond, nat_le}
+use Rattle.std.proofs.Common.{◌≡◌, ◌<◌, ◌≤◌, ◌+◌, ◌*◌, ◌-◌, ◌&&◌, ℕ, suc, List, [], ◌∷◌, Bool, true, false, refl, arith, length, drop, get_or, drop-cons, nat_le}
 use Rattle.std.proofs.lemmas.Bool.Decides.{nat_tests}
-use Rattle.t7_records.specs.Numbers.{is_decimal, is_decimal_to, number_to, value_from, value_of}
+use Rattle.t7_records.specs.Numbers.{is_decimal, is_decimal_to, value_from, value_of}
 
 pub value_rises : (n : ℕ) (ds : List ℕ) → n ≤ value_from n ds
 value_rises n [] = omega arith

@@ -1,4 +1,4 @@
-// Plain decimals.
+//! Plain decimals.
 
 ghost use Rattle.std.specs.Prelude.{◌≡◌, ◌≤◌, Some, None, IfSome, if◌then◌else◌};
 ghost use Rattle.std.specs.List.{list_all};
@@ -13,7 +13,6 @@ fn are_digits(cell: &[u8]) -> bool
 }
 
 // Whether a cell is a plain decimal.
-#[tactic(auto, unfolding(crate::specs::Numbers::is_decimal))]
 fn is_plain(cell: &[u8]) -> bool
     ensures { result ≡ plain cell.now }
 {
@@ -24,7 +23,7 @@ fn is_plain(cell: &[u8]) -> bool
 }
 
 /// The number that a cell spells as a plain decimal, where it is at most this.
-#[tactic(auto, using(crate::proofs::DecimalFacts::value_rises), unfolding(crate::specs::Numbers::is_decimal_to))]
+#[tactic(auto, unfolding(crate::specs::Numbers::is_decimal_to), using(crate::proofs::DecimalFacts::value_rises))]
 pub fn decimal(cell: &[u8], most: u64) -> Option<u64>
     ensures value { result ≡ (if is_decimal_to most cell.now then Some (value_of cell.now) else None) }
     ensures limit { IfSome result (λ n. n ≤ most) }
@@ -54,7 +53,6 @@ pub fn is_decimal(cell: &[u8], most: u64) -> bool
 }
 
 /// The number that a plain decimal up to a limit spells, and 0 for any other cell.
-#[tactic(auto, unfolding(crate::specs::Numbers::number_to))]
 pub fn number(cell: &[u8], most: u64) -> u64
     ensures value { result ≡ number_to most cell.now }
     ensures limit { result ≤ most }

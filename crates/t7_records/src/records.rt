@@ -1,4 +1,4 @@
-// The records of a text of comma-separated cells.
+//! The records of a text of comma-separated cells.
 
 ghost use Rattle.std.specs.Prelude.{◌≡◌, ◌<◌, IfOk, length};
 ghost use Rattle.t7_records.specs.Records.{cell, record_at, records_of};

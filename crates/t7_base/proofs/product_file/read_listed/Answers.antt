@@ -1,7 +1,7 @@
 use Rattle.std.proofs.Common.{◌≡◌, ◌∙◌, ◌+◌, ◌-◌, ℕ, sym, ap, subst, arith, length, rules, ◌<◌}
 use Rattle.std.proofs.lemmas.Bool.Decides.{nat_tests}
 use Rattle.t7_base.specs.ProductFile.{fault_at, least_fault}
-use Rattle.t7_base.specs.ProductLists.{Lists, lists_before}
+use Rattle.t7_base.specs.ProductLists.{ProductRows, lists_before}
 use Rattle.t7_base.proofs.ProductFacts.{found, least_next, missing, no_lists, valid, long}
 use Rattle.t7_base.proofs.product_file.read_listed.Goals as goal
 
@@ -33,7 +33,7 @@ pub returns-then-is_empty-clause-fault : goal.returns-then-is_empty-clause-fault
 returns-then-is_empty-clause-fault c =
     let rows = c.args.rows.now in
     let last : c.loop-at.at ≡ length rows = omega arith in
-    let sessions : c.listed-2.inside.sessions.items ≡ c.loop-at.listed.sessions = ap (λ (l : Lists). l.sessions) c.listed-2.view_is in
+    let sessions : c.listed-2.inside.sessions.items ≡ c.loop-at.listed.sessions = ap (λ (l : ProductRows). l.sessions) c.listed-2.view_is in
     let empty : length c.loop-at.listed.sessions ≡ 0 = rw (← sessions) (grind (arith, nat_tests)) in
     rw c.len.ensures
     (missing rows c.loop-at.listed (subst (λ (at : ℕ). c.loop-at.listed ≡ lists_before rows at) last c.loop-at.invariant.lists)
@@ -42,14 +42,14 @@ returns-then-is_empty-clause-fault c =
 
 pub returns-clause-some : goal.returns-clause-some
 returns-clause-some c =
-    let sessions : c.listed-2.inside.sessions.items ≡ c.loop-at.listed.sessions = ap (λ (l : Lists). l.sessions) c.listed-2.view_is in
+    let sessions : c.listed-2.inside.sessions.items ≡ c.loop-at.listed.sessions = ap (λ (l : ProductRows). l.sessions) c.listed-2.view_is in
     rw (← sessions) (grind (arith, nat_tests))
 
 pub returns-clause-valid : goal.returns-clause-valid
 returns-clause-valid c =
     let rows = c.args.rows.now in
     let last : c.loop-at.at ≡ length rows = omega arith in
-    let sessions : c.listed-2.inside.sessions.items ≡ c.loop-at.listed.sessions = ap (λ (l : Lists). l.sessions) c.listed-2.view_is in
+    let sessions : c.listed-2.inside.sessions.items ≡ c.loop-at.listed.sessions = ap (λ (l : ProductRows). l.sessions) c.listed-2.view_is in
     let some : 0 < length c.loop-at.listed.sessions = rw (← sessions) (grind (arith, nat_tests)) in
     valid rows c.loop-at.listed (subst (λ (at : ℕ). c.loop-at.listed ≡ lists_before rows at) last c.loop-at.invariant.lists)
     (subst (λ (at : ℕ). least_fault (fault_at rows) 0 (length rows) ≡ least_fault (fault_at rows) at (length rows - at)) last c.loop-at.invariant.faults)
@@ -59,6 +59,6 @@ pub returns-clause-long : goal.returns-clause-long
 returns-clause-long c =
     let rows = c.args.rows.now in
     let last : c.loop-at.at ≡ length rows = omega arith in
-    let sessions : c.listed-2.inside.sessions.items ≡ c.loop-at.listed.sessions = ap (λ (l : Lists). l.sessions) c.listed-2.view_is in
+    let sessions : c.listed-2.inside.sessions.items ≡ c.loop-at.listed.sessions = ap (λ (l : ProductRows). l.sessions) c.listed-2.view_is in
     let some : 0 < length c.loop-at.listed.sessions = rw (← sessions) (grind (arith, nat_tests)) in
     long rows c.loop-at.listed (subst (λ (at : ℕ). c.loop-at.listed ≡ lists_before rows at) last c.loop-at.invariant.lists) some

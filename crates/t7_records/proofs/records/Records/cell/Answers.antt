@@ -1,7 +1,6 @@
-use Rattle.std.proofs.Common.{◌≡◌, ◌<◌, arith, map, length}
+use Rattle.std.proofs.Common.{arith}
 use Rattle.std.proofs.lemmas.List.{length-map}
 use Rattle.csv.specs.Records.{fields_of}
-use Rattle.t7_records.specs.Records.{cell, record_at}
 use Rattle.t7_records.proofs.CellFacts.{cell_found, cell_missing, record_of}
 use Rattle.t7_records.proofs.records.Records.cell.Goals as goal
 

@@ -1,6 +1,0 @@
-use Rattle.std.proofs.Common.{arith}
-use Rattle.t7_memory.proofs.Noting.{told_more}
-use Rattle.t7_memory.proofs.note.Notes.note.Goals as goal
-
-pub returns : goal.returns
-returns g c = grind (arith, told_more)
