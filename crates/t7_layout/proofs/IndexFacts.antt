@@ -2,14 +2,14 @@
 use Rattle.std.proofs.Common.{◌≡◌, ◌≢◌, ◌<◌, ◌≤◌, ◌+◌, ◌-◌, ◌*◌, ◌∙◌, ℕ, zero, suc, List, [], ◌∷◌, ◌++◌, Bool, true, false, Option, Some, None, length, map, drop, get_or, refl, ap, sym, arith, cond, nat_eq, ◌&&◌, ◌==◌, add-one, drop-cons, suc-mul, length-append, nat_lt}
 use Rattle.std.specs.Prelude.{Contains, IfSome, find, slice_get, slice_index, slice_set, replicate}
 use Rattle.std.specs.List.{flat_map}
-use Rattle.std.specs.Option.{option_and_then}
+use Rattle.std.specs.Option.{option_and_then, unwrap_or}
 use Rattle.std.proofs.lemmas.Bool.Decides.{nat_tests}
 use Rattle.std.proofs.lemmas.List.{drop_all}
 use Rattle.t7_layout.specs.declared.words.Family.{Family}
 use Rattle.t7_layout.specs.declared.roles.Role.{Role}
 use Rattle.t7_layout.specs.declared.roles.FieldName.{FieldName}
 use Rattle.t7_layout.specs.declared.roles.FieldName.TheVariants.{BodyLen, TemplateID, MsgSeqNum, HeartBtInt, PartyIDSessionID, Side, SecurityID, ClOrdID, Price, OrderQty, OrderID, ApplBegMsgID, ApplEndMsgID, SessionRejectReason, ApplTotalMessageCount, RefApplLastMsgID, ApplMsgID, TrdRegTSTimePriority, NoAffectedOrders, LeavesQty, CumQty, FillQty, FillPx, ApplSeqNum, MarketSegmentID, LastMsgSeqNumProcessed, DisplayQty, TrdRegTSPrevTimePriority, PrevPrice, PrevDisplayQty, LastQty, LastPx, AggressorTime, AggressorSide, TotNoOrders}
-use Rattle.t7_layout.specs.Inside.{AreFieldsOfRoles, ArePlacesOfIds, ArePlacesOfRoles, layout_before, place_of_role}
+use Rattle.t7_layout.specs.Inside.{AreFieldsOfRoles, ArePlacesOfIds, ArePlacesOfRoles, field_in, filler, layout_before, place_of_role}
 use Rattle.t7_layout.specs.Layouts.{Layout, Place}
 use Rattle.t7_layout.specs.Lookups.{find_field, find_role, has_id, holds_role, is_layout_of, place_in}
 use Rattle.t7_layout.specs.Roles.{all_names, all_roles, family_of, kind_of, name_number, required, role_number, width_in}
@@ -124,10 +124,10 @@ map_long : {X Y : Type 0} (f : X → Y) (xs : List X) → length (map f xs) ≡ 
 map_long f [] = refl
 map_long f (x ∷ xs) = ap suc (map_long f xs)
 
-pub role_fields_are : (layouts : List Layout) → AreFieldsOfRoles layouts (flat_map (λ role. map (place_in layouts role) all_names) all_roles)
+pub role_fields_are : (layouts : List Layout) → AreFieldsOfRoles layouts (flat_map (λ role. map (field_in layouts role) all_names) all_roles)
 role_fields_are layouts role name =
-    in_flat (λ r. map (place_in layouts r) all_names) 35 (λ r. map_long (place_in layouts r) all_names ∙ names_many) all_roles (role_number role) (name_number name) role (place_in layouts role name)
-    (stands_there role) (mapped (place_in layouts role) all_names (name_number name) name (name_there name))
+    in_flat (λ r. map (field_in layouts r) all_names) 35 (λ r. map_long (field_in layouts r) all_names ∙ names_many) all_roles (role_number role) (name_number name) role (field_in layouts role name)
+    (stands_there role) (mapped (field_in layouts role) all_names (name_number name) name (name_there name))
 
 -- ids, from the last template to the first
 pub zeros : (n i : ℕ) → slice_index (replicate n 0) i ≡ 0
@@ -221,20 +221,25 @@ role_stands layouts places role are holds = by (slice_get places (role_number ro
     by None e is (Some t) found = cc (is, found)
     by (Some k) e is (Some t) found = record { place = k; template = t; there = e; is = is ∙ found; found = found }
 
-pub field_is : (layouts : List Layout) (fields : List (Option Place)) (role : Role) (name : FieldName) (o : Option Place) → AreFieldsOfRoles layouts fields
-    → slice_get fields (role_number role * 35 + name_number name) ≡ Some o → place_in layouts role name ≡ o
-field_is layouts fields role name o are e = let f = are role name in cc
+pub field_inside : (layouts : List Layout) (fields : List Place) (role : Role) (name : FieldName) → AreFieldsOfRoles layouts fields → role_number role * 35 + name_number name < length fields
+field_inside layouts fields role name are = slice_get_within fields (role_number role * 35 + name_number name) (field_in layouts role name) (are role name)
 
-pub field_inside : (layouts : List Layout) (fields : List (Option Place)) (role : Role) (name : FieldName) → AreFieldsOfRoles layouts fields → role_number role * 35 + name_number name < length fields
-field_inside layouts fields role name are = slice_get_within fields (role_number role * 35 + name_number name) (place_in layouts role name) (are role name)
-
-pub required_there : (layouts : List Layout) (role : Role) (name : FieldName) → holds_role layouts role ≡ true → Contains (required role) name → place_in layouts role name ≡ None → ⊥
+required_there : (layouts : List Layout) (role : Role) (name : FieldName) → holds_role layouts role ≡ true → Contains (required role) name → place_in layouts role name ≡ None → ⊥
 unfolding place_in
 required_there layouts role name holds there none = by (find_role layouts role) refl none
   where
     by : (o : Option Layout) → find_role layouts role ≡ o → option_and_then (λ (t : Layout). find_field (family_of role) name t.names t.fields) o ≡ None → ⊥
     by None e none = role_there layouts role holds e
     by (Some t) e none = field_there layouts role t name holds e there none
+
+-- the field that is kept for a required name is the one that has it
+pub field_is : (layouts : List Layout) (fields : List Place) (role : Role) (name : FieldName) (f : Place) → AreFieldsOfRoles layouts fields → holds_role layouts role ≡ true → Contains (required role) name
+    → slice_get fields (role_number role * 35 + name_number name) ≡ Some f → place_in layouts role name ≡ Some f
+field_is layouts fields role name f are holds there e = by (place_in layouts role name) refl (sym (are role name) ∙ e)
+  where
+    by : (o : Option Place) → place_in layouts role name ≡ o → Some (unwrap_or o filler) ≡ Some f → o ≡ Some f
+    by None none e = absurd (required_there layouts role name holds there none)
+    by (Some g) some e = e
 
 -- the field of a role that a name has
 pub record RoleField (layouts : List Layout) (role : Role) (name : FieldName) (f : Place) : Type 0 where

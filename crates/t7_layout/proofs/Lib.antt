@@ -1,5 +1,8 @@
+mod WordFacts
+pub mod BytesFacts
 pub mod FaultFacts
 pub mod FoundFacts
+pub mod ImageFacts
 pub mod IndexFacts
 pub mod KeptFacts
 pub mod LawFacts

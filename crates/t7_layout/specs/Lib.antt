@@ -1,8 +1,11 @@
 pub mod Faults
 pub mod FirstFault
+pub mod Images
 pub mod Inside
+pub mod KeptFields
 pub mod Layouts
 pub mod Lookups
+pub mod Nulls
 pub mod Pairs
 pub mod Refusals
 pub mod Roles

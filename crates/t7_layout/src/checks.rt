@@ -1,4 +1,4 @@
-// The tests of a layout table's rows.
+//! The tests of a layout table's rows.
 
 ghost use Rattle.std.specs.Prelude.{◌≡◌, ◌≤◌, ◌<◌, ◌+◌, ◌^◌, ◌&&◌, IfOk, length, take, drop, ℕ, false};
 ghost use Rattle.std.specs.List.{list_all, list_any};
@@ -16,7 +16,6 @@ use crate::words::{Family, Kind, TableFault, TableWhy};
 use std::alloc::{AllocError, Global};
 use t7_records::{Records, is_decimal};
 
-#[tactic(auto, unfolding(crate::specs::Faults::fails_columns))]
 pub(crate) fn fails_columns(rows: &Records, at: usize) -> bool
     requires { at < length rows.now }
     ensures { result ≡ fails_columns (record_at rows.now at) }
@@ -24,7 +23,6 @@ pub(crate) fn fails_columns(rows: &Records, at: usize) -> bool
     rows.width(at) != 8
 }
 
-#[tactic(auto, unfolding(crate::specs::Faults::fails_family))]
 pub(crate) fn fails_family(rows: &Records, at: usize) -> bool
     requires { at < length rows.now }
     ensures { result ≡ fails_family (record_at rows.now at) }
@@ -32,7 +30,6 @@ pub(crate) fn fails_family(rows: &Records, at: usize) -> bool
     !(in_family(rows, at, Family::Eti) || in_family(rows, at, Family::Eobi))
 }
 
-#[tactic(auto, unfolding(crate::specs::Faults::fails_cell))]
 pub(crate) fn fails_cell(rows: &Records, at: usize) -> bool
     requires { at < length rows.now }
     ensures { result ≡ fails_cell (record_at rows.now at) }
@@ -46,7 +43,6 @@ pub(crate) fn fails_cell(rows: &Records, at: usize) -> bool
         && 0 < row_width(rows, at))
 }
 
-#[tactic(auto, unfolding(crate::specs::Faults::fails_kind))]
 pub(crate) fn fails_kind(rows: &Records, at: usize) -> bool
     requires { at < length rows.now }
     ensures { result ≡ fails_kind (record_at rows.now at) }
@@ -56,14 +52,12 @@ pub(crate) fn fails_kind(rows: &Records, at: usize) -> bool
         || has_kind(rows, at, Kind::Raw))
 }
 
-#[tactic(auto, unfolding(crate::specs::Faults::is_width))]
 fn is_width(width: u64) -> bool
     ensures { result ≡ is_width width }
 {
     width == 1 || width == 2 || width == 4 || width == 8
 }
 
-#[tactic(auto, unfolding(crate::specs::Faults::fails_width))]
 pub(crate) fn fails_width(rows: &Records, at: usize) -> bool
     requires { at < length rows.now }
     ensures { result ≡ fails_width (record_at rows.now at) }
@@ -72,7 +66,6 @@ pub(crate) fn fails_width(rows: &Records, at: usize) -> bool
         && !is_width(row_width(rows, at))
 }
 
-#[tactic(auto, unfolding(crate::specs::Faults::has_extreme_null))]
 fn has_extreme_null(rows: &Records, at: usize) -> bool
     requires { at < length rows.now }
     ensures { result ≡ has_extreme_null (record_at rows.now at) }
@@ -91,7 +84,6 @@ fn names_field(role: Role, word: &[u8]) -> bool
     role.required().iter().any(|name| word == name.text())
 }
 
-#[tactic(auto, unfolding(crate::specs::Faults::is_required))]
 fn is_required(rows: &Records, at: usize) -> bool
     requires { at < length rows.now }
     ensures { result ≡ is_required (record_at rows.now at) }
@@ -102,7 +94,6 @@ fn is_required(rows: &Records, at: usize) -> bool
     }
 }
 
-#[tactic(auto, unfolding(crate::specs::Faults::is_length_or_id))]
 fn is_length_or_id(rows: &Records, at: usize) -> bool
     requires { at < length rows.now }
     ensures { result ≡ is_length_or_id (record_at rows.now at) }
@@ -111,7 +102,6 @@ fn is_length_or_id(rows: &Records, at: usize) -> bool
         || rows.cell(at, 3) == FieldName::TemplateID.text()
 }
 
-#[tactic(auto, unfolding(crate::specs::Faults::fails_null))]
 pub(crate) fn fails_null(rows: &Records, at: usize) -> bool
     requires { at < length rows.now }
     ensures { result ≡ fails_null (record_at rows.now at) }
@@ -154,7 +144,6 @@ fn has_field(rows: &Records, at: usize, family: Family, name: FieldName) -> bool
     true
 }
 
-#[tactic(auto, unfolding(crate::specs::Faults::fails_duplicate_id))]
 pub(crate) fn fails_duplicate_id<'a>(rows: &'a Records, passed: &Passed<'a>, at: usize) -> bool
     requires first { 0 < at }
     requires inside { at < length rows.now }
@@ -164,7 +153,6 @@ pub(crate) fn fails_duplicate_id<'a>(rows: &'a Records, passed: &Passed<'a>, at:
     begins(rows, at) && passed.has_id(rows, at)
 }
 
-#[tactic(auto, unfolding(crate::specs::Faults::fails_duplicate_name))]
 pub(crate) fn fails_duplicate_name<'a>(rows: &'a Records, passed: &Passed<'a>, at: usize) -> bool
     requires first { 0 < at }
     requires inside { at < length rows.now }
@@ -174,7 +162,6 @@ pub(crate) fn fails_duplicate_name<'a>(rows: &'a Records, passed: &Passed<'a>, a
     (begins(rows, at) && passed.has_name(rows, at)) || repeats_field(rows, at)
 }
 
-#[tactic(auto, unfolding(crate::specs::Faults::fails_overlap))]
 pub(crate) fn fails_overlap(rows: &Records, at: usize) -> bool
     requires first { 0 < at }
     requires inside { at < length rows.now }
@@ -183,7 +170,6 @@ pub(crate) fn fails_overlap(rows: &Records, at: usize) -> bool
     row_offset(rows, at) < end_before(rows, at)
 }
 
-#[tactic(auto, unfolding(crate::specs::Faults::fails_hole))]
 pub(crate) fn fails_hole(rows: &Records, at: usize) -> bool
     requires first { 0 < at }
     requires inside { at < length rows.now }
@@ -192,7 +178,6 @@ pub(crate) fn fails_hole(rows: &Records, at: usize) -> bool
     end_before(rows, at) < row_offset(rows, at)
 }
 
-#[tactic(auto, unfolding(crate::specs::Faults::fails_length))]
 pub(crate) fn fails_length(rows: &Records, at: usize) -> bool
     requires { at < length rows.now }
     ensures { result ≡ fails_length rows.now at }
@@ -216,7 +201,6 @@ fn has_fields(rows: &Records, at: usize, role: Role) -> bool
         .all(|name| has_field(rows, at, family, *name))
 }
 
-#[tactic(auto, unfolding(crate::specs::Faults::fails_role_field))]
 pub(crate) fn fails_role_field(rows: &Records, at: usize) -> bool
     requires first { 0 < at }
     requires inside { at < length rows.now }
@@ -270,7 +254,6 @@ const EOBI_HEADER: [FieldName; 3] = [
     FieldName::MsgSeqNum,
 ];
 
-#[tactic(auto, unfolding(crate::specs::Faults::fails_header))]
 pub(crate) fn fails_header(rows: &Records, at: usize) -> bool
     requires first { 0 < at }
     requires inside { at < length rows.now }
@@ -288,7 +271,6 @@ pub(crate) fn fails_header(rows: &Records, at: usize) -> bool
 }
 
 // The first test that a row behind the heading fails.
-#[tactic(auto, unfolding(crate::specs::Faults::row_fault))]
 fn row_fault<'a>(rows: &'a Records, passed: &Passed<'a>, at: usize) -> Option<TableWhy>
     requires first { 0 < at }
     requires inside { at < length rows.now }
@@ -338,7 +320,6 @@ fn row_fault<'a>(rows: &'a Records, passed: &Passed<'a>, at: usize) -> Option<Ta
 }
 
 // The first test that a row fails.
-#[tactic(auto, unfolding(crate::specs::Faults::fault_at))]
 fn fault_at<'a>(rows: &'a Records, passed: &Passed<'a>, at: usize) -> Option<TableWhy>
     requires inside { at < length rows.now }
     requires passed { HoldsRows (take at rows.now) passed.now }
@@ -396,7 +377,6 @@ fn least_fault(alloc: Global, rows: &Records) -> Result<Option<TableFault>, Allo
 }
 
 /// What is wrong with the records of a table.
-#[tactic(auto, unfolding(crate::specs::Faults::fault_of, crate::specs::Faults::looked_at))]
 pub(crate) fn fault_of(alloc: Global, rows: &Records) -> Result<Option<TableFault>, AllocError>
     requires { length rows.now + 1 < 2 ^ 32 }
     ensures { IfOk result (λ fault. fault ≡ fault_of rows.now) }

@@ -1,10 +1,10 @@
-// What is looked up in a table, resolved once when it is read: no message is then looked for by a name.
+//! What is looked up in a table, resolved once when it is read: no message is then looked for by a name.
 
 ghost use Rattle.std.specs.Prelude.{◌≡◌, ◌≤◌, ◌<◌, ◌+◌, ◌*◌, ◌++◌, ◌^◌, ℕ, Some, IfOk, OnOk, true, length, map, slice_get, slice_index};
 ghost use Rattle.t7_layout.specs.Roles.{name_number, role_number};
 ghost use Rattle.std.specs.List.{flat_map};
 ghost use Rattle.std.specs.Option.{option_copied};
-ghost use Rattle.t7_layout.specs.Inside.{ArePlacesOfIds, ArePlacesOfRoles, layout_before, place_of_role};
+ghost use Rattle.t7_layout.specs.Inside.{ArePlacesOfIds, ArePlacesOfRoles, field_in, layout_before, place_of_role};
 ghost use Rattle.t7_layout.specs.Lookups.{find_role, find_template, holds_role, is_layout_of, place_in};
 
 use crate::fields::FieldRef;
@@ -15,7 +15,6 @@ use crate::words::Family;
 use std::alloc::{AllocError, Global};
 
 // Whether a template is of a role.
-#[tactic(auto, unfolding(crate::specs::Lookups::is_layout_of))]
 fn is_layout_of(t: &Template, role: Role) -> bool
     ensures { result ≡ is_layout_of role t.now }
 {
@@ -58,7 +57,6 @@ fn find_role(templates: &[Template], role: Role) -> Option<&Template>
 }
 
 // The field of a role's template that has a name.
-#[tactic(auto, unfolding(crate::specs::Lookups::place_in))]
 fn field_of_role(templates: &[Template], role: Role, name: FieldName) -> Option<FieldRef>
     ensures { result ≡ place_in templates.now role name }
 {
@@ -68,29 +66,36 @@ fn field_of_role(templates: &[Template], role: Role, name: FieldName) -> Option<
     }
 }
 
-// Adds, for each of these names, the field of a role's template.
+// The same, and the filler where there is none.
+fn field_in(templates: &[Template], role: Role, name: FieldName) -> FieldRef
+    ensures { result ≡ field_in templates.now role name }
+{
+    field_of_role(templates, role, name).unwrap_or(FieldRef::filler())
+}
+
+// Adds, for each of these names, the field of a role's template, or the filler.
 fn push_fields(
-    fields: &mut Vec<Option<FieldRef>>,
+    fields: &mut Vec<FieldRef>,
     templates: &[Template],
     role: Role,
     names: &[FieldName],
 ) -> Result<(), AllocError>
-    ensures { OnOk result (fields.new.items ≡ fields.old.items ++ map (place_in templates.now role) names.now) }
+    ensures { OnOk result (fields.new.items ≡ fields.old.items ++ map (field_in templates.now role) names.now) }
 {
     for name in names {
-        fields.push(field_of_role(templates, role, *name))?;
+        fields.push(field_in(templates, role, *name))?;
     }
     Ok(())
 }
 
-/// For each of these roles, for each of these names, the field of the role's template that has it.
+/// For each of these roles, for each of these names, the field of the role's template that has it, or the filler.
 pub(crate) fn fields_of_roles(
     alloc: Global,
     templates: &[Template],
     roles: &[Role],
     names: &[FieldName],
-) -> Result<Vec<Option<FieldRef>>, AllocError>
-    ensures { IfOk result (λ v. v.items ≡ flat_map (λ role. map (place_in templates.now role) names.now) roles.now) }
+) -> Result<Vec<FieldRef>, AllocError>
+    ensures { IfOk result (λ v. v.items ≡ flat_map (λ role. map (field_in templates.now role) names.now) roles.now) }
 {
     let mut fields = Vec::new(alloc);
     for role in roles {
@@ -179,7 +184,7 @@ pub(crate) fn template_of_role<'a>(
 }
 
 /// The field of a role that has a name.
-pub(crate) fn field_of(fields: &[Option<FieldRef>], role: Role, name: FieldName) -> Option<FieldRef>
+pub(crate) fn field_of(fields: &[FieldRef], role: Role, name: FieldName) -> FieldRef
     requires { role_number role * 35 + name_number name < length fields.now }
     ensures { slice_get fields.now (role_number role * 35 + name_number name) ≡ Some result }
 {

@@ -6,6 +6,7 @@
 
 mod checks;
 mod fields;
+mod images;
 mod index;
 mod laws;
 mod pairs;

@@ -1,4 +1,4 @@
-// The families of rows with their ids and their names: what no later template may have again.
+//! The families of rows with their ids and their names: what no later template may have again.
 
 ghost use Rattle.std.specs.Prelude.{◌≡◌, ◌<◌, ◌+◌, ◌&&◌, [], OnOk, length, take};
 ghost use Rattle.std.specs.List.{list_any};
@@ -45,7 +45,6 @@ fn add<'a>(
 }
 
 // Whether an earlier row is of the same family and has another cell in common.
-#[tactic(auto, unfolding(crate::specs::Rows::same_cell))]
 fn has<'a>(pairs: &Pairs<'a>, rows: &'a Records, at: usize, place: usize) -> bool
     requires inside { at < length rows.now }
     requires passed { ArePairs place (take at rows.now) pairs.now }

@@ -1,4 +1,4 @@
-// The templates that the product itself reads and writes.
+//! The templates that the product itself reads and writes.
 
 ghost use Rattle.std.specs.Prelude.{◌≡◌, ◌<◌};
 ghost use Rattle.t7_layout.specs.Roles.{family_of, field_text, kind_of, name_number, required, role_number, role_text, width_in};
@@ -121,7 +121,6 @@ impl Role {
     ];
 
     /// Where it stands in `ALL`.
-    #[tactic(auto, unfolding(crate::specs::Roles::role_number))]
     pub(crate) fn number(self) -> usize
         ensures value { result ≡ role_number self }
         ensures limit { result < 32 }
@@ -130,7 +129,6 @@ impl Role {
     }
 
     /// The message set that it is of.
-    #[tactic(auto, unfolding(crate::specs::Roles::family_of))]
     pub fn family(self) -> Family
         ensures { result ≡ family_of self }
     {
@@ -153,7 +151,6 @@ impl Role {
     }
 
     /// Its template's name, as a table spells it.
-    #[tactic(auto, unfolding(crate::specs::Roles::role_text))]
     pub fn name(self) -> &'static [u8]
         ensures { result.now ≡ role_text self }
     {
@@ -194,7 +191,6 @@ impl Role {
     }
 
     /// The fields that its template must have, the header's first. Further fields may stand beside them.
-    #[tactic(auto, unfolding(crate::specs::Roles::required))]
     pub fn required(self) -> &'static [FieldName]
         ensures { result.now ≡ required self }
     {
@@ -487,7 +483,6 @@ impl FieldName {
     ];
 
     /// Where it stands in `ALL`.
-    #[tactic(auto, unfolding(crate::specs::Roles::name_number))]
     pub(crate) fn number(self) -> usize
         ensures value { result ≡ name_number self }
         ensures limit { result < 35 }
@@ -496,7 +491,6 @@ impl FieldName {
     }
 
     /// The name as a table has it.
-    #[tactic(auto, unfolding(crate::specs::Roles::field_text))]
     pub fn text(self) -> &'static [u8]
         ensures { result.now ≡ field_text self }
     {
@@ -540,7 +534,6 @@ impl FieldName {
     }
 
     /// How the field of this name is read, in every message that has it.
-    #[tactic(auto, unfolding(crate::specs::Roles::kind_of))]
     pub fn kind(self) -> Kind
         ensures { result ≡ kind_of self }
     {
@@ -567,7 +560,6 @@ impl FieldName {
     }
 
     /// How many bytes the field of this name has in a message of a family; only the length's depends on the family.
-    #[tactic(auto, unfolding(crate::specs::Roles::width_in))]
     pub fn width(self, family: Family) -> usize
         ensures { result ≡ width_in family self }
     {

@@ -1,4 +1,4 @@
-// What the rows of a layout table say. The heading is at place 0.
+//! What the rows of a layout table say. The heading is at place 0.
 
 ghost use Rattle.std.specs.Prelude.{◌≡◌, ◌≤◌, ◌<◌, ◌+◌, length};
 ghost use Rattle.std.specs.List.{list_all};
@@ -14,7 +14,6 @@ use t7_records::{Records, decimal, number};
 
 impl Family {
     /// The word of a table.
-    #[tactic(auto, unfolding(crate::specs::Rows::family_text))]
     pub fn text(self) -> &'static [u8]
         ensures { result.now ≡ family_text self }
     {
@@ -27,7 +26,6 @@ impl Family {
 
 impl Kind {
     /// The word of a table.
-    #[tactic(auto, unfolding(crate::specs::Rows::kind_text))]
     pub fn text(self) -> &'static [u8]
         ensures { result.now ≡ kind_text self }
     {
@@ -47,7 +45,6 @@ fn says(rows: &Records, at: usize, place: usize, word: &[u8]) -> bool
     rows.cell(at, place) == word
 }
 
-#[tactic(auto, unfolding(crate::specs::Rows::is_heading))]
 pub(crate) fn is_heading(rows: &Records, at: usize) -> bool
     requires { at < length rows.now }
     ensures { result ≡ is_heading (record_at rows.now at) }
@@ -63,7 +60,6 @@ pub(crate) fn is_heading(rows: &Records, at: usize) -> bool
         && says(rows, at, 7, b"null")
 }
 
-#[tactic(auto, unfolding(crate::specs::Rows::in_family))]
 pub(crate) fn in_family(rows: &Records, at: usize, family: Family) -> bool
     requires { at < length rows.now }
     ensures { result ≡ in_family family (record_at rows.now at) }
@@ -71,7 +67,6 @@ pub(crate) fn in_family(rows: &Records, at: usize, family: Family) -> bool
     rows.cell(at, 0) == family.text()
 }
 
-#[tactic(auto, unfolding(crate::specs::Rows::has_kind))]
 pub(crate) fn has_kind(rows: &Records, at: usize, kind: Kind) -> bool
     requires { at < length rows.now }
     ensures { result ≡ has_kind kind (record_at rows.now at) }
@@ -79,7 +74,6 @@ pub(crate) fn has_kind(rows: &Records, at: usize, kind: Kind) -> bool
     rows.cell(at, 6) == kind.text()
 }
 
-#[tactic(auto, unfolding(crate::specs::Rows::row_family))]
 pub(crate) fn row_family(rows: &Records, at: usize) -> Family
     requires { at < length rows.now }
     ensures { result ≡ row_family (record_at rows.now at) }
@@ -91,7 +85,6 @@ pub(crate) fn row_family(rows: &Records, at: usize) -> Family
     }
 }
 
-#[tactic(auto, unfolding(crate::specs::Rows::row_kind))]
 pub(crate) fn row_kind(rows: &Records, at: usize) -> Kind
     requires { at < length rows.now }
     ensures { result ≡ row_kind (record_at rows.now at) }
@@ -106,7 +99,6 @@ pub(crate) fn row_kind(rows: &Records, at: usize) -> Kind
 }
 
 /// Whether two families are one.
-#[tactic(auto, unfolding(crate::specs::Rows::same_family))]
 pub(crate) fn same_family(a: Family, b: Family) -> bool
     ensures { result ≡ same_family a b }
 {
@@ -114,14 +106,12 @@ pub(crate) fn same_family(a: Family, b: Family) -> bool
 }
 
 /// Whether two kinds are one.
-#[tactic(auto, unfolding(crate::specs::Rows::same_kind))]
 pub(crate) fn same_kind(a: Kind, b: Kind) -> bool
     ensures { result ≡ same_kind a b }
 {
     a.text() == b.text()
 }
 
-#[tactic(auto, unfolding(crate::specs::Rows::row_id))]
 pub(crate) fn row_id(rows: &Records, at: usize) -> u64
     requires { at < length rows.now }
     ensures value { result ≡ row_id (record_at rows.now at) }
@@ -130,7 +120,6 @@ pub(crate) fn row_id(rows: &Records, at: usize) -> u64
     number(rows.cell(at, 1), 65535)
 }
 
-#[tactic(auto, unfolding(crate::specs::Rows::row_offset))]
 pub(crate) fn row_offset(rows: &Records, at: usize) -> u64
     requires { at < length rows.now }
     ensures value { result ≡ row_offset (record_at rows.now at) }
@@ -139,7 +128,6 @@ pub(crate) fn row_offset(rows: &Records, at: usize) -> u64
     number(rows.cell(at, 4), 1023)
 }
 
-#[tactic(auto, unfolding(crate::specs::Rows::row_width))]
 pub(crate) fn row_width(rows: &Records, at: usize) -> u64
     requires { at < length rows.now }
     ensures value { result ≡ row_width (record_at rows.now at) }
@@ -148,7 +136,6 @@ pub(crate) fn row_width(rows: &Records, at: usize) -> u64
     number(rows.cell(at, 5), 1024)
 }
 
-#[tactic(auto, unfolding(crate::specs::Rows::row_end))]
 pub(crate) fn row_end(rows: &Records, at: usize) -> u64
     requires { at < length rows.now }
     ensures value { result ≡ row_end (record_at rows.now at) }
@@ -163,14 +150,12 @@ fn are_name_bytes(word: &[u8]) -> bool
     word.iter().all(|b| b.is_ascii_alphanumeric() || *b == b'_')
 }
 
-#[tactic(auto, unfolding(crate::specs::Rows::is_name))]
 pub(crate) fn is_name(word: &[u8]) -> bool
     ensures { result ≡ is_name word.now }
 {
     !word.is_empty() && word.len() <= 40 && are_name_bytes(word)
 }
 
-#[tactic(auto, unfolding(crate::specs::Rows::greatest))]
 pub(crate) fn greatest(width: u64) -> u64
     ensures { result ≡ greatest width }
 {
@@ -182,7 +167,6 @@ pub(crate) fn greatest(width: u64) -> u64
     }
 }
 
-#[tactic(auto, unfolding(crate::specs::Rows::unsigned_null))]
 fn unsigned_null(width: u64, word: &[u8]) -> Option<i128>
     ensures { result ≡ unsigned_null width word.now }
 {
@@ -205,7 +189,6 @@ fn signed_null(width: u64, word: &[u8]) -> Option<i128>
     }
 }
 
-#[tactic(auto, unfolding(crate::specs::Rows::row_null))]
 pub(crate) fn row_null(rows: &Records, at: usize) -> Option<i128>
     requires { at < length rows.now }
     ensures { result ≡ row_null (record_at rows.now at) }
@@ -219,7 +202,6 @@ pub(crate) fn row_null(rows: &Records, at: usize) -> Option<i128>
     }
 }
 
-#[tactic(auto, unfolding(crate::specs::Rows::same_cell))]
 pub(crate) fn same_cell(rows: &Records, a: usize, b: usize, at: usize) -> bool
     requires a { a < length rows.now }
     requires b { b < length rows.now }
@@ -228,7 +210,6 @@ pub(crate) fn same_cell(rows: &Records, a: usize, b: usize, at: usize) -> bool
     rows.cell(a, at) == rows.cell(b, at)
 }
 
-#[tactic(auto, unfolding(crate::specs::Rows::same_template))]
 pub(crate) fn same_template(rows: &Records, a: usize, b: usize) -> bool
     requires a { a < length rows.now }
     requires b { b < length rows.now }
@@ -240,7 +221,6 @@ pub(crate) fn same_template(rows: &Records, a: usize, b: usize) -> bool
         && same_cell(rows, a, b, 2)
 }
 
-#[tactic(auto, unfolding(crate::specs::Rows::begins))]
 pub(crate) fn begins(rows: &Records, at: usize) -> bool
     requires first { 0 < at }
     requires inside { at < length rows.now }
@@ -249,7 +229,6 @@ pub(crate) fn begins(rows: &Records, at: usize) -> bool
     at == 1 || !same_template(rows, at - 1, at)
 }
 
-#[tactic(auto, unfolding(crate::specs::Rows::ends))]
 pub(crate) fn ends(rows: &Records, at: usize) -> bool
     requires { at < length rows.now }
     ensures { result ≡ ends rows.now at }
@@ -257,7 +236,6 @@ pub(crate) fn ends(rows: &Records, at: usize) -> bool
     rows.len() <= at + 1 || !same_template(rows, at, at + 1)
 }
 
-#[tactic(auto, unfolding(crate::specs::Rows::end_before))]
 pub(crate) fn end_before(rows: &Records, at: usize) -> u64
     requires first { 0 < at }
     requires inside { at < length rows.now }
@@ -270,7 +248,6 @@ pub(crate) fn end_before(rows: &Records, at: usize) -> u64
     }
 }
 
-#[tactic(auto, unfolding(crate::specs::Rows::is_of))]
 pub(crate) fn is_of(rows: &Records, at: usize, role: Role) -> bool
     requires { at < length rows.now }
     ensures { result ≡ is_of (record_at rows.now at) role }
@@ -289,7 +266,6 @@ pub(crate) fn role_of(rows: &Records, at: usize) -> Option<Role>
         .find(|role| is_of(rows, at, *role))
 }
 
-#[tactic(auto, unfolding(crate::specs::Rows::is_field))]
 pub(crate) fn is_field(rows: &Records, at: usize, family: Family, name: FieldName) -> bool
     requires { at < length rows.now }
     ensures { result ≡ is_field family name (record_at rows.now at) }

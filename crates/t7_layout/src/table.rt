@@ -1,4 +1,4 @@
-// The layout table.
+//! The layout table.
 
 ghost use Rattle.std.specs.Prelude.{◌≡◌, ◌≤◌, ◌<◌, ◌^◌, ℕ, Some, IfOk, IfErr, IfSome, OnOk, OnErr, ◌++◌, true, Contains, length};
 ghost use Rattle.t7_layout.specs.Texts.{table_text};
@@ -55,7 +55,7 @@ impl From<AllocError> for TableRefusal {
 pub struct Table {
     templates: Vec<Template>,
     role_places: Vec<usize>,
-    role_fields: Vec<Option<FieldRef>>,
+    role_fields: Vec<FieldRef>,
     eti_places: Vec<u32>,
     eobi_places: Vec<u32>,
 }
@@ -119,6 +119,7 @@ impl Table {
         ensures layout { IfSome result (λ t. IsLayout t.now) }
         ensures family { IfSome result (λ t. t.now.family ≡ family) }
         ensures role { IfSome result (λ t. IfSome (role_of_layout t.now) (λ role. find_role self.now role ≡ Some t.now)) }
+        ensures table { IsTable self.now }
     {
         template_of_id(
             &self.templates,
@@ -138,6 +139,7 @@ impl Table {
         ensures own { role_of_layout result.now ≡ Some role }
         ensures id { find_template self.now (family_of role) result.now.id ≡ Some result.now }
         ensures short { family_of role ≡ Family.Eobi → result.now.size ≤ 128 }
+        ensures table { IsTable self.now }
     {
         template_of_role(&self.templates, &self.role_places, role)
     }
@@ -151,11 +153,9 @@ impl Table {
         ensures kind { result.kind ≡ kind_of name }
         ensures width { result.width ≡ width_in (family_of role) name }
         ensures null { IsRoleNull name result }
+        ensures table { IsTable self.now }
     {
-        match field_of(&self.role_fields, role, name) {
-            Some(field) => field,
-            None => unreachable!(),
-        }
+        field_of(&self.role_fields, role, name)
     }
 
     /// The templates, in the order of the file.
@@ -168,7 +168,6 @@ impl Table {
 
     /// Adds a line for each template, in the order of the file: its family, its id, its name and its length in bytes,
     /// as `ETI 101 LogonRequest 24`. Where memory runs out, `out` is as it was.
-    #[tactic(auto, unfolding(crate::specs::Texts::table_text))]
     pub fn text(&self, out: &mut Vec<u8>) -> Result<(), AllocError>
         ensures ok { OnOk result (out.new.items ≡ out.old.items ++ table_text self.now) }
         ensures err { OnErr result (out.new.items ≡ out.old.items) }

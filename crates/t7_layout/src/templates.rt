@@ -1,8 +1,9 @@
-// The templates of a layout table.
+//! The templates of a layout table.
 
 ghost use Rattle.std.specs.Prelude.{◌≡◌, ◌≤◌, ◌<◌, ◌+◌, List, ℕ, IfOk, IfSome, IfNone, length, map, true, false};
 ghost use Rattle.t7_records.specs.Records.{record_at};
 ghost use Rattle.t7_layout.specs.Faults.{IsValid};
+ghost use Rattle.t7_layout.specs.Images.{blank};
 ghost use Rattle.t7_layout.specs.Layouts.{IsLayout, Layout, Place};
 ghost use Rattle.t7_layout.specs.Lookups.{find_field, is_layout_of, is_place, role_of_layout};
 ghost use Rattle.t7_layout.specs.Rows.{ends};
@@ -10,6 +11,7 @@ ghost use Rattle.t7_layout.specs.Tables.{layout_at, table_of};
 
 use crate::checks::start_of;
 use crate::fields::{FieldRef, fields_of, names_of};
+use crate::images::image_of;
 use crate::roles::{FieldName, Role};
 use crate::rows::*;
 use crate::words::Family;
@@ -27,6 +29,7 @@ pub struct Template {
     names: Vec<Vec<u8>>,
     fields: Vec<FieldRef>,
     role: Option<Role>,
+    image: Vec<u8>,
 }
 
 impl Model for Template {
@@ -40,7 +43,7 @@ impl Model for Template {
 
     ghost use Rattle.t7_layout.specs.Inside.{IsTemplate};
 
-    ghost invariant = { λ a. IsTemplate (record { family = a.family; id = a.id; name = string_bytes a.name; size = a.size; names = map (λ n. n.items) a.names.items; fields = a.fields.items }) a.role };
+    ghost invariant = { λ a. IsTemplate (record { family = a.family; id = a.id; name = string_bytes a.name; size = a.size; names = map (λ n. n.items) a.names.items; fields = a.fields.items }) a.role a.image.items };
 }
 
 impl Template {
@@ -82,6 +85,14 @@ impl Template {
         self.role
     }
 
+    /// The bytes of a message of it in which nothing is put: BodyLen says its length and TemplateID its id, and every
+    /// other field has the number that stands for no value, or zeros where it has none.
+    pub fn image(&self) -> &[u8]
+        ensures { result.now ≡ blank self.now }
+    {
+        self.image.as_slice()
+    }
+
     /// Its fields, in the order of their bytes.
     pub fn fields(&self) -> &[FieldRef]
         ensures { result.now ≡ self.now.fields }
@@ -98,7 +109,6 @@ impl Template {
 }
 
 // Whether a field is the one of this name.
-#[tactic(auto, unfolding(crate::specs::Lookups::is_place))]
 fn is_place(family: Family, name: FieldName, word: &[u8], field: FieldRef) -> bool
     ensures { result ≡ is_place family name word.now field }
 {
@@ -129,7 +139,6 @@ fn find_field(
 }
 
 // The template whose last row is at a place, before the row at `end`.
-#[tactic(auto, unfolding(crate::specs::Tables::layout_at))]
 fn template_at(alloc: Global, rows: &Records, at: usize, end: usize) -> Result<Template, AllocError>
     requires first { 0 < at }
     requires next { end ≡ at + 1 }
@@ -143,19 +152,22 @@ fn template_at(alloc: Global, rows: &Records, at: usize, end: usize) -> Result<T
     let names = names_of(alloc, rows, start, end)?;
     let fields = fields_of(alloc, rows, start, end, size)?;
     let name = String::from_utf8_lossy(alloc, rows.cell(at, 2))?;
+    let family = row_family(rows, at);
+    let id = row_id(rows, at) as u16;
+    let image = image_of(alloc, family, id, size as usize, &fields)?;
     Ok(Template {
-        family: row_family(rows, at),
-        id: row_id(rows, at) as u16,
+        family,
+        id,
         name,
         size: size as usize,
         names,
         fields,
         role: role_of(rows, at),
+        image,
     })
 }
 
 /// The templates of valid records.
-#[tactic(auto, unfolding(crate::specs::Tables::table_of))]
 pub(crate) fn templates_of(alloc: Global, rows: &Records) -> Result<Vec<Template>, AllocError>
     requires { IsValid rows.now }
     ensures { IfOk result (λ v. v.items ≡ table_of rows.now) }

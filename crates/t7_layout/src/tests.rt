@@ -1,4 +1,4 @@
-// The sample table, and tables with a fault.
+//! The sample table, and tables with a fault.
 
 use super::*;
 use std::alloc::{AllocError, Global};

@@ -1,4 +1,4 @@
-// The text of a table.
+//! The text of a table.
 
 ghost use Rattle.std.specs.Prelude.{◌≡◌, ◌++◌, ◌∷◌, [], OnOk, OnErr, decimal};
 ghost use Rattle.std.specs.List.{flat_map};

@@ -1,4 +1,4 @@
-// The words of a layout table.
+//! The words of a layout table.
 
 ghost use Rattle.std.specs.Prelude.{◌≡◌};
 ghost use Rattle.t7_layout.specs.Texts.{why_text};
@@ -60,7 +60,6 @@ pub enum TableWhy {
 
 impl TableWhy {
     /// The word for it: what a refusal prints.
-    #[tactic(auto, unfolding(crate::specs::Texts::why_text))]
     pub fn text(self) -> &'static str
         ensures { result.now ≡ why_text self }
     {
