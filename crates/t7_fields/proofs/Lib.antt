@@ -1,4 +1,3 @@
-pub mod BytesFacts
 pub mod MessageFacts
 pub mod NameFacts
 pub mod PatchFacts

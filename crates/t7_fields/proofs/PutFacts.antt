@@ -18,9 +18,10 @@ use Rattle.t7_layout.specs.Layouts.{HasHeader, IsInRange, IsLayout, IsPlace, Lai
 use Rattle.t7_layout.specs.Roles.{width_in}
 use Rattle.t7_fields.specs.Spelling.{EachSpells, FieldSpells, IsHeld, Spells, Value, Number, Bytes, body_length, complement, header_width, length_width, number_bytes, raw_at, template_id}
 use Rattle.t7_fields.specs.Puts.{IsPuttable, MayPut, MayPutEach, Put, blank, blank_value, last_put, null_bytes, patch, put_each, record_of, unset_bytes, unset_value, value_bytes, filled, written}
-use Rattle.t7_fields.proofs.BytesFacts.{halves, number_again}
+use Rattle.t7_layout.proofs.BytesFacts.{halves, number_again}
 use Rattle.t7_fields.proofs.PatchFacts.{Leaves, before, drop_sum, laid_within, patch_field, patch_leaves, patch_length}
-use Rattle.t7_fields.proofs.SpellFacts.{contains_at, not_raw}
+use Rattle.t7_layout.proofs.ImageFacts.{body_width, held, length_room, null_length, number_length, unset_length}
+use Rattle.t7_fields.proofs.SpellFacts.{contains_at}
 
 -- ---- bytes in place of others, beside bytes that stay
 
@@ -31,21 +32,7 @@ patch_append at piece xs ys h =
     let back = drop-append-le (at + length piece) xs ys h in
     rw (front, back) (sym (append_assoc (take at xs) (piece ++ drop (at + length piece) xs) ys ∙ ap (λ (t : List ℕ). take at xs ++ t) (append_assoc piece (drop (at + length piece) xs) ys)))
 
-pub patch_seam : (xs piece ys : List ℕ) → patch (length xs) piece (xs ++ ys) ≡ (xs ++ piece) ++ drop (length piece) ys
-unfolding patch
-patch_seam xs piece ys =
-    rw (take-append_seam xs ys, drop-append-add xs ys (length piece)) (sym (append_assoc xs piece (drop (length piece) ys)))
-
 -- ---- the bytes of values
-
-number_length : (w : ℕ) (z : ℤ) → length (number_bytes w z) ≡ w
-unfolding number_bytes
-number_length w z = length-bytes_low_first 0 w (complement w z)
-
-pub null_length : (w : ℕ) (null : Option ℤ) → length (null_bytes w null) ≡ w
-unfolding null_bytes
-null_length w None = length-replicate w 0
-null_length w (Some z) = number_length w z
 
 byte_zero : (i : ℕ) → byte_at i 0 ≡ 0
 byte_zero zero = refl
@@ -62,90 +49,6 @@ puttable_length f (Number None) can = absurd can
 puttable_length f (Bytes xs) can = can.1
 
 -- ---- a message in which nothing is put
-
-pub unset_length : (from : ℕ) (fs : List Place) (to : ℕ) → LaidOut from fs to → from + length (unset_bytes fs) ≡ to
-unfolding unset_bytes
-unset_length from [] to l = omega (arith, l)
-unset_length from (f ∷ fs) to l =
-    let rest = unset_length (from + f.width) fs to l.1 in
-    let wide = null_length f.width f.null in
-    let whole = length-append (null_bytes f.width f.null) (unset_bytes fs) in
-    omega arith
-
--- one field more
-pub record OneUnset (fs : List Place) (i from : ℕ) (f : Place) : Type 0 where
-  pub offset : f.offset ≡ from + length (unset_bytes (take i fs))
-  pub bytes : unset_bytes (take (suc i) fs) ≡ unset_bytes (take i fs) ++ null_bytes f.width f.null
-
-pub one_unset : (from : ℕ) (fs : List Place) (to i : ℕ) (d : Place) → LaidOut from fs to → i < length fs → OneUnset fs i from (get_or fs i d)
-unfolding unset_bytes
-one_unset from [] to i d l h = absurd (omega arith)
-one_unset from (f ∷ fs) to zero d l h = record { offset = omega (arith, l.0); bytes = append-nil (null_bytes f.width f.null) }
-one_unset from (f ∷ fs) to (suc i) d l h =
-    let rest = one_unset (from + f.width) fs to i d l.1 (omega arith) in
-    let wide = null_length f.width f.null in
-    let whole = length-append (null_bytes f.width f.null) (unset_bytes (take i fs)) in
-    record {
-      offset = omega (arith, rest.offset);
-      bytes = rw rest.bytes (sym (append_assoc (null_bytes f.width f.null) (unset_bytes (take i fs)) (null_bytes (get_or fs i d).width (get_or fs i d).null)));
-    }
-
--- a field of a loop over the fields of a template
-pub item_there : (ts fs : List Place) (i : ℕ) (f : Place) → fs ≡ ts → i < length fs → f ≡ get_or fs i f → Contains ts f
-item_there ts fs i f e h is =
-    let P : List Place → Type 0 = λ l. Contains l f in
-    let Q : Place → Type 0 = λ p. Contains fs p in
-    subst P e (subst Q (sym is) (Contains-get_or fs i f h))
-
-pub cleared_more : (t : Layout) (fs : List Place) (i : ℕ) (f : Place) (out old : List ℕ) → LaidOut 0 t.fields t.size → fs ≡ t.fields → i < length fs → f ≡ get_or fs i f
-    → out ≡ unset_bytes (take i fs) ++ drop (length (unset_bytes (take i fs))) old
-    → patch f.offset (null_bytes f.width f.null) out ≡ unset_bytes (take (i + 1) fs) ++ drop (length (unset_bytes (take (i + 1) fs))) old
-cleared_more t fs i f out old l e h is done =
-    let P : List Place → Type 0 = λ l. LaidOut 0 l t.size in
-    let one = one_unset 0 fs t.size i f (subst P (sym e) l) h in
-    let Q : Place → Type 0 = λ p. patch p.offset (null_bytes p.width p.null) out ≡ unset_bytes (take (i + 1) fs) ++ drop (length (unset_bytes (take (i + 1) fs))) old in
-    subst Q (sym is) (by (get_or fs i f) (unset_bytes (take i fs)) one.offset one.bytes done)
-  where
-    by : (g : Place) (u : List ℕ) → g.offset ≡ 0 + length u → unset_bytes (take (suc i) fs) ≡ u ++ null_bytes g.width g.null → out ≡ u ++ drop (length u) old
-        → patch g.offset (null_bytes g.width g.null) out ≡ unset_bytes (take (i + 1) fs) ++ drop (length (unset_bytes (take (i + 1) fs))) old
-    by g u o more done =
-        let at : g.offset ≡ length u = omega arith in
-        let size = length-append u (null_bytes g.width g.null) in
-        let bytes : List ℕ = null_bytes g.width g.null in
-        let next : unset_bytes (take (i + 1) fs) ≡ u ++ bytes = rw (add-one i) more in
-        let step : patch g.offset bytes out ≡ (u ++ bytes) ++ drop (length bytes) (drop (length u) old) = ap (λ (n : ℕ). patch n bytes out) at ∙ ap (patch (length u) bytes) done ∙ patch_seam u bytes (drop (length u) old) in
-        step ∙ ap (λ (r : List ℕ). (u ++ bytes) ++ r) (drop_sum (length u) (length bytes) old) ∙ ap (λ (n : ℕ). (u ++ bytes) ++ drop n old) (sym size)
-        ∙ ap (λ (b : List ℕ). b ++ drop (length b) old) (sym next)
-
-pub cleared_all : (t : Layout) (fs : List Place) (i : ℕ) (out old : List ℕ) → LaidOut 0 t.fields t.size → fs ≡ t.fields → length fs ≤ i
-    → out ≡ unset_bytes (take i fs) ++ drop (length (unset_bytes (take i fs))) old → out ≡ unset_bytes t.fields ++ drop t.size old
-cleared_all t fs i out old l e h done =
-    let all : take i fs ≡ t.fields = take_all i fs h ∙ e in
-    let size : length (unset_bytes t.fields) ≡ t.size = omega (arith, unset_length 0 t.fields t.size l) in
-    done ∙ ap (λ (gs : List Place). unset_bytes gs ++ drop (length (unset_bytes gs)) old) all ∙ ap (λ (n : ℕ). unset_bytes t.fields ++ drop n old) size
-
--- the header over the fields in which nothing is put
-pub blank_over : (t : Layout) (out old cleared : List ℕ) (width size id : ℕ) → LaidOut 0 t.fields t.size → 8 ≤ t.size → width ≡ length_width t.family → size ≡ t.size → id ≡ t.id
-    → cleared ≡ unset_bytes t.fields ++ drop t.size old
-    → out ≡ patch width (number_bytes 2 (pos id)) (patch 0 (number_bytes width (pos size)) cleared) → out ≡ written t [] old
-unfolding written put_each blank number_bytes complement length_width
-blank_over t out old cleared width size id l long ew es ei done e =
-    let first = length-bytes_low_first 0 (length_width t.family) t.size in
-    let second = length-bytes_low_first 0 2 t.id in
-    let high = width_high t.family in
-    let room : length (unset_bytes t.fields) ≡ t.size = omega (arith, unset_length 0 t.fields t.size l) in
-    let one = patch_append 0 (little_bytes (length_width t.family) t.size) (unset_bytes t.fields) (drop t.size old) (omega arith) in
-    let size_1 = patch_length 0 (little_bytes (length_width t.family) t.size) (unset_bytes t.fields) (omega arith) in
-    let two = patch_append (length_width t.family) (little_bytes 2 t.id) (patch 0 (little_bytes (length_width t.family) t.size) (unset_bytes t.fields)) (drop t.size old) (omega arith) in
-    e ∙ ap (λ (w : ℕ). patch w (little_bytes 2 id) (patch 0 (little_bytes w size) cleared)) ew
-    ∙ ap (λ (n : ℕ). patch (length_width t.family) (little_bytes 2 id) (patch 0 (little_bytes (length_width t.family) n) cleared)) es
-    ∙ ap (λ (n : ℕ). patch (length_width t.family) (little_bytes 2 n) (patch 0 (little_bytes (length_width t.family) t.size) cleared)) ei
-    ∙ ap (λ (b : List ℕ). patch (length_width t.family) (little_bytes 2 t.id) (patch 0 (little_bytes (length_width t.family) t.size) b)) done
-    ∙ ap (patch (length_width t.family) (little_bytes 2 t.id)) one ∙ two
-  where
-    width_high : (family : Family) → length_width family ≤ 4
-    width_high Eti = omega arith
-    width_high Eobi = omega arith
 
 unset_at : (pre : List ℕ) (fs : List Place) (to : ℕ) (f : Place) → LaidOut (length pre) fs to → Contains fs f → raw_at f (pre ++ unset_bytes fs) ≡ null_bytes f.width f.null
 unfolding unset_bytes raw_at
@@ -166,15 +69,7 @@ unset_at pre (g ∷ fs) to f l (suc k, inside, is) =
     let Q : List ℕ → Type 0 = λ b. take f.width (drop f.offset b) ≡ null_bytes f.width f.null in
     subst Q (append_assoc pre (null_bytes g.width g.null) (unset_bytes fs)) rest
 
--- ---- numbers that a field can hold
-
-pub held : (k : Kind) (w : ℕ) (z : ℤ) → 1 ≤ w → IsInRange k w z → IsHeld k w z
-unfolding IsHeld
-held Unsigned w z low r = let (n, fits, is) = r in rw is fits
-held Signed w z low (inl r) = let (n, fits, is) = r in let e = halves w low in rw is (omega arith)
-held Signed w z low (inr (zero, fits, is)) = let some = one-le-pow (8 * w - 1) 2 (omega arith) in rw is (omega arith)
-held Signed w z low (inr (suc n, fits, is)) = let e = halves w low in rw is (omega arith)
-held Raw w z low r = absurd r
+-- ---- what a field with nothing in it spells
 
 held_zero : (k : Kind) (w : ℕ) → k ≢ Raw → IsHeld k w (pos 0)
 unfolding IsHeld
@@ -285,20 +180,10 @@ each_carries t (p ∷ ps) g b whole may has =
 
 -- ---- the blank message
 
-pub body_width : (family : Family) → width_in family name.BodyLen ≡ length_width family
-unfolding width_in length_width
-body_width Eti = refl
-body_width Eobi = refl
-
 pub id_width : (family : Family) → width_in family name.TemplateID ≡ 2
 unfolding width_in
 id_width Eti = refl
 id_width Eobi = refl
-
-length_room : (family : Family) (n : ℕ) → n ≤ 1024 → n < 256 ^ length_width family
-unfolding length_width
-length_room Eti n h = omega arith
-length_room Eobi n h = omega arith
 
 width_low : (family : Family) → 2 ≤ length_width family
 unfolding length_width
@@ -492,24 +377,3 @@ finished t ps out new whole may e =
 
     past : (xs ys : List ℕ) (n : ℕ) → length xs ≡ n → drop n (xs ++ ys) ≡ ys
     past xs ys n e = rw (← e) (drop-append_seam xs ys)
-
--- ---- what a loop over fields needs
-
-pub inside : (t : Layout) (f : Place) (n : ℕ) → IsLayout t → Contains t.fields f → t.size ≤ n → f.offset + f.width ≤ n
-inside t f n whole there h = let w = laid_within 0 t.fields t.size f whole.laid there in omega (arith, w.high)
-
-pub null_held : (f : Place) → IsPlace f → IfSome f.null (IsHeld f.kind f.width)
-null_held f p = by f.null p.null
-  where
-    by : (o : Option ℤ) → IfSome o (IsInRange f.kind f.width) → IfSome o (IsHeld f.kind f.width)
-    by None h = h
-    by (Some z) h = held f.kind f.width z p.some h
-
-pub some_held : (f : Place) (null : ℤ) → f.null ≡ Some null → IfSome f.null (IsHeld f.kind f.width) → IsHeld f.kind f.width null
-some_held f null e h = rw e at h
-
-pub some_narrow : (f : Place) (null : ℤ) → IsPlace f → f.null ≡ Some null → IfSome f.null (IsHeld f.kind f.width) → f.width ≤ 8
-some_narrow f null p e h = p.narrow (λ raw. not_raw f.kind f.width null raw (some_held f null e h))
-
-pub size_fits : (t : Layout) (size width : ℕ) → t.size ≤ 1024 → size ≡ t.size → width ≡ length_width t.family → size < 256 ^ width
-size_fits t size width short es ew = let h = length_room t.family size (omega arith) in rw ew h

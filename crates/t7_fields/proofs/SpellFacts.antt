@@ -12,7 +12,8 @@ use Rattle.t7_layout.specs.declared.words.Kind.TheVariants.{Unsigned, Signed, Ra
 use Rattle.t7_fields.specs.Spelling.{IsHeld, complement, number_bytes, EachSpells, FieldSpells, Fits, HasNumber, Spells, template_id, Value, Number, Bytes, known_signed, known_unsigned, raw_at, signed_at, unsigned_at}
 use Rattle.t7_fields.specs.Messages.{number_as, number_at}
 use Rattle.t7_fields.specs.Records.{record_in, value_as}
-use Rattle.t7_fields.proofs.BytesFacts.{bytes_again, complement_again, complement_fits, number_again, signed_again}
+use Rattle.t7_layout.proofs.ImageFacts.{not_raw}
+use Rattle.t7_layout.proofs.BytesFacts.{bytes_again, complement_again, complement_fits, number_again, signed_again}
 
 is_null : (o : Option ℤ) (z : ℤ) → option_eq int_eq o (Some z) ≡ true → o ≡ Some z
 is_null None z h = cc h
@@ -69,13 +70,6 @@ has_reads f z b low h = number_read f.kind f z b low h.held h.bytes
 pub number_spelled : (f : Place) (o : Option ℤ) (b : List ℕ) → 1 ≤ f.width → FieldSpells f (Number o) b → number_at f b ≡ o
 number_spelled f (Some z) b low s = has_reads f z b low s.0 ∙ known_number f.null z s.1
 number_spelled f None b low s = let (z, null, has) = s in has_reads f z b low has ∙ known_null f.null z null
-
-pub not_raw : (k : Kind) (w : ℕ) (z : ℤ) → k ≡ Raw → IsHeld k w z → ⊥
-unfolding IsHeld
-not_raw Unsigned w z e h = cc e
-not_raw Signed w z e h = cc e
-not_raw Raw w (pos n) e h = h
-not_raw Raw w (negsuc n) e h = h
 
 -- a field's bytes spell one value
 pub one_value : (f : Place) (v w : Value) (b : List ℕ) → 1 ≤ f.width → FieldSpells f v b → FieldSpells f w b → v ≡ w

@@ -29,16 +29,16 @@ unfoldable pub number_at : Place → List ℕ → Option ℤ
 number_at f b = number_as f.kind f b
 
 -- what a message says in the field of a name
-unfoldable pub said : Message → FieldName → Option ℤ
-said m name = option_and_then (λ f. number_at f m.bytes) (place_in m.layouts m.role name)
+unfoldable pub said_number : Message → FieldName → Option ℤ
+said_number m name = option_and_then (λ f. number_at f m.bytes) (place_in m.layouts m.role name)
 
 -- the same, and 0 where it says nothing
 unfoldable pub value : Message → FieldName → ℤ
-value m name = option_map_or (λ z. z) (said m name) (pos 0)
+value m name = option_map_or (λ z. z) (said_number m name) (pos 0)
 
 -- the first of these names of which a message says nothing
 unfoldable pub first_unset : Message → List FieldName → Option FieldName
-first_unset m names = find (λ name. not (is_some (said m name))) names
+first_unset m names = find (λ name. not (is_some (said_number m name))) names
 
 -- a name is one of these
 unfoldable pub is_among : FieldName → List FieldName → Bool

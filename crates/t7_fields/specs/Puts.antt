@@ -1,33 +1,16 @@
 -- What a writer makes of a template: a blank message, in which fields are put.
 use Rattle.std.specs.Prelude.{ℕ, ◌≡◌, ◌≢◌, ◌≤◌, ◌+◌, ◌==◌, if◌then◌else◌, List, [], ◌∷◌, ◌++◌, Option, Some, None, ℤ, pos, Contains, length, take, drop, map, replicate}
 use Rattle.byteorder.specs.Endian.{little_bytes}
+unfoldable pub use Rattle.t7_layout.specs.Images.{blank, null_bytes, patch, unset_bytes}
 use Rattle.t7_layout.specs.Layouts.{Layout, Place}
 use Rattle.t7_layout.specs.declared.words.Kind.{Kind}
 use Rattle.t7_layout.specs.declared.words.Kind.TheVariants.{Raw}
 use Rattle.t7_fields.specs.Spelling.{IsHeld, Value, Number, Bytes, Spells, header_width, length_width, number_bytes}
 
--- bytes with others in place of those from a place on
-unfoldable pub patch : ℕ → List ℕ → List ℕ → List ℕ
-patch at piece b = take at b ++ (piece ++ drop (at + length piece) b)
-
 -- a value that is put in a field
 pub record Put : Type 0 where
   pub place : Place
   pub value : Value
-
--- the bytes of a field in which nothing is put: those of its null, or zeros where it has none
-unfoldable pub null_bytes : ℕ → Option ℤ → List ℕ
-null_bytes width (Some z) = number_bytes width z
-null_bytes width None = replicate width 0
-
--- those of all fields, one behind another
-unfoldable pub unset_bytes : List Place → List ℕ
-unset_bytes [] = []
-unset_bytes (f ∷ fs) = null_bytes f.width f.null ++ unset_bytes fs
-
--- a message in which nothing is put: BodyLen says the template's length and TemplateID its id
-unfoldable pub blank : Layout → List ℕ
-blank t = patch (length_width t.family) (little_bytes 2 t.id) (patch 0 (little_bytes (length_width t.family) t.size) (unset_bytes t.fields))
 
 -- the bytes of a value in a field
 unfoldable pub value_bytes : Place → Value → List ℕ

@@ -3,6 +3,7 @@ use Rattle.std.specs.Prelude.{ℕ, ◌≡◌, ◌≢◌, ◌≤◌, ◌+◌, ◌
 use Rattle.std.specs.Ordering.{int_eq}
 use Rattle.std.specs.Option.{option_eq}
 use Rattle.byteorder.specs.Endian.{little_bytes, little_number, twos_complement}
+unfoldable pub use Rattle.t7_layout.specs.Images.{IsHeld, complement, length_width, number_bytes}
 use Rattle.t7_layout.specs.Layouts.{Layout, Place}
 use Rattle.t7_layout.specs.declared.words.Family.{Family}
 use Rattle.t7_layout.specs.declared.words.Family.TheVariants.{Eti, Eobi}
@@ -12,27 +13,6 @@ use Rattle.t7_layout.specs.declared.words.Kind.TheVariants.{Unsigned, Signed, Ra
 -- the bytes of a field
 unfoldable pub raw_at : Place → List ℕ → List ℕ
 raw_at f b = take f.width (drop f.offset b)
-
--- a number of a kind, in so many bytes
-unfoldable pub IsHeld : Kind → ℕ → ℤ → Type 0
-IsHeld Unsigned width (pos n) = n < 256 ^ width
-IsHeld Signed width (pos n) = n < 2 ^ (8 * width - 1)
-IsHeld Signed width (negsuc n) = n < 2 ^ (8 * width - 1)
-IsHeld kind width z = ⊥
-
--- the number whose bytes stand for a number: in two's complement, where it is below 0
-unfoldable pub complement : ℕ → ℤ → ℕ
-complement width (pos n) = n
-complement width (negsuc n) = 256 ^ width - (n + 1)
-
--- the bytes of a number, the lowest first
-unfoldable pub number_bytes : ℕ → ℤ → List ℕ
-number_bytes width z = little_bytes width (complement width z)
-
--- the header's first two fields are BodyLen, in so many bytes, and TemplateID, in two
-unfoldable pub length_width : Family → ℕ
-length_width Eti = 4
-length_width Eobi = 2
 
 -- where the fields after these two begin
 unfoldable pub header_width : Family → ℕ

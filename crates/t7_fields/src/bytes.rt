@@ -1,17 +1,17 @@
-// Numbers and bytes, written at a place.
+//! Numbers and bytes, written at a place.
 
-ghost use Rattle.std.specs.Prelude.{◌≡◌, ◌≤◌, ◌<◌, ◌+◌, ◌^◌, length, pos, replicate};
+ghost use Rattle.std.specs.Prelude.{◌≡◌, ◌≤◌, ◌<◌, ◌+◌, ◌^◌, length, pos};
 ghost use Rattle.std.specs.Int.{w64};
 ghost use Rattle.byteorder.specs.Endian.{little_bytes, low_bytes};
 ghost use Rattle.t7_layout.specs.declared.words.Kind.TheVariants.{Signed};
 ghost use Rattle.t7_fields.specs.Spelling.{IsHeld, number_bytes};
 ghost use Rattle.t7_fields.specs.Puts.{patch};
+ghost use Rattle.t7_fields.specs.Writing.{IsSized, number_width, scalar_bytes};
 
+use crate::writer::Scalar;
 use byteorder::{ByteOrder, LittleEndian};
-use t7_layout::Kind;
 
 /// Writes an unsigned number of so many bytes at a place.
-#[tactic(auto, unfolding(crate::specs::Puts::patch, crate::specs::Spelling::number_bytes, crate::specs::Spelling::complement))]
 pub(crate) fn write_unsigned(out: &mut [u8], at: usize, width: usize, n: u64)
     requires low { 1 ≤ width }
     requires high { width ≤ 8 }
@@ -23,7 +23,6 @@ pub(crate) fn write_unsigned(out: &mut [u8], at: usize, width: usize, n: u64)
 }
 
 // Writes the lowest bytes of a signed number at a place.
-#[tactic(auto, unfolding(crate::specs::Puts::patch))]
 fn write_low(out: &mut [u8], at: usize, width: usize, n: i64)
     requires low { 1 ≤ width }
     requires high { width ≤ 8 }
@@ -45,35 +44,30 @@ pub(crate) fn write_signed(out: &mut [u8], at: usize, width: usize, n: i64)
 }
 
 /// Writes bytes at a place.
-#[tactic(auto, unfolding(crate::specs::Puts::patch))]
+#[inline(always)]
 pub(crate) fn write_bytes(out: &mut [u8], at: usize, piece: &[u8])
     requires room { at + length piece.now ≤ length out.old }
-    ensures { out.new ≡ patch at piece.now out.old }
+    ensures bytes { out.new ≡ patch at piece.now out.old }
+    ensures same_length { length out.new ≡ length out.old }
 {
     out[at..at + piece.len()].copy_from_slice(piece);
 }
 
-/// Writes so many zeros at a place.
-#[tactic(auto, unfolding(crate::specs::Puts::patch))]
-pub(crate) fn write_zeros(out: &mut [u8], at: usize, width: usize)
-    requires room { at + width ≤ length out.old }
-    ensures { out.new ≡ patch at (replicate width 0) out.old }
+/// Writes a number at a place, in the bytes of a field of its kind and width.
+#[inline(always)]
+pub(crate) fn write_scalar(out: &mut [u8], at: usize, n: Scalar)
+    requires room { at + number_width n ≤ length out.old }
+    ensures bytes { out.new ≡ patch at (scalar_bytes n) out.old }
+    ensures same_length { length out.new ≡ length out.old }
+    ensures sized { IsSized n }
 {
-    out[at..at + width].fill(0);
-}
-
-/// Writes a number of a kind, in so many bytes, at a place.
-#[tactic(auto, unfolding(crate::specs::Spelling::IsHeld))]
-pub(crate) fn write_number(out: &mut [u8], at: usize, width: usize, kind: Kind, n: i128)
-    requires low { 1 ≤ width }
-    requires high { width ≤ 8 }
-    requires room { at + width ≤ length out.old }
-    requires held { IsHeld kind width n }
-    ensures { out.new ≡ patch at (number_bytes width n) out.old }
-{
-    match kind {
-        Kind::Unsigned => write_unsigned(out, at, width, n as u64),
-        Kind::Signed => write_signed(out, at, width, n as i64),
-        Kind::Raw => unreachable!(),
+    match n {
+        Scalar::Byte(n) => write_bytes(out, at, &[n]),
+        Scalar::Half(n) => write_bytes(out, at, &n.to_le_bytes()),
+        Scalar::Word(n) => write_bytes(out, at, &n.to_le_bytes()),
+        Scalar::Long(n) => write_bytes(out, at, &n.to_le_bytes()),
+        Scalar::SignedWord(n) => write_bytes(out, at, &n.to_le_bytes()),
+        Scalar::Signed(n) => write_bytes(out, at, &n.to_le_bytes()),
+        Scalar::Raw(n) => write_bytes(out, at, &n.to_be_bytes()),
     }
 }

@@ -1,4 +1,4 @@
-// What always holds of the definitions of records and their bytes.
+//! What always holds of the definitions of records and their bytes.
 
 ghost use Rattle.std.specs.Prelude.{◌≡◌, ◌<◌, ◌≤◌, ◌^◌, List, ℕ, ℤ, true, length, slice_index};
 ghost use Rattle.byteorder.specs.Endian.{little_bytes, little_number, twos_complement};
@@ -7,9 +7,9 @@ ghost use Rattle.t7_layout.specs.Layouts.{IsLayout, Layout};
 ghost use Rattle.t7_layout.specs.declared.roles.FieldName.{FieldName};
 ghost use Rattle.t7_layout.specs.declared.roles.Role.{Role};
 ghost use Rattle.t7_layout.specs.Lookups.{IsTable};
-ghost use Rattle.t7_fields.specs.declared.writer.Number.{Number};
+ghost use Rattle.t7_fields.specs.declared.writer.Scalar.{Scalar};
 ghost use Rattle.t7_fields.specs.Spelling.{IsHeld, Spells, Value, complement};
-ghost use Rattle.t7_fields.specs.Writing.{AreKnown, AreOrdinary, AreSaid, AreSized, IsWritten, can_say_each, message_of};
+ghost use Rattle.t7_fields.specs.Writing.{AreKnown, AreOrdinary, AreSaid, AreSized, IsWritten, can_say_each, message_saying};
 
 /// Bytes that are read as a number, the lowest first, are the bytes of that number.
 pub fn bytes_read_again()
@@ -34,11 +34,11 @@ pub fn one_record()
 /// The message of a role that says certain numbers, by a valid table: it is one that a view accepts, it says each of
 /// them, and every other field is unset.
 pub fn a_message_says_what_is_written()
-    ensures { (layouts : List Layout) (role : Role) (ps : List (FieldName × Number)) → IsTable layouts → AreSaid layouts role ps → AreSized ps → IsWritten layouts role ps (message_of layouts role ps) }
+    ensures { (layouts : List Layout) (role : Role) (ps : List (FieldName × Scalar)) → IsTable layouts → AreSaid layouts role ps → AreSized ps → IsWritten layouts role ps (message_saying layouts role ps) }
 {}
 
 /// In a valid table the null of a field that a role requires is the greatest number of its width, or the least of a
 /// signed one. So every other number may be said.
 pub fn ordinary_numbers_are_known()
-    ensures { (layouts : List Layout) (role : Role) (ps : List (FieldName × Number)) → IsTable layouts → can_say_each role ps ≡ true → AreOrdinary ps → AreKnown layouts role ps }
+    ensures { (layouts : List Layout) (role : Role) (ps : List (FieldName × Scalar)) → IsTable layouts → can_say_each role ps ≡ true → AreOrdinary ps → AreKnown layouts role ps }
 {}

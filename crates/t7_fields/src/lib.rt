@@ -4,6 +4,7 @@
 mod bytes;
 mod laws;
 mod message;
+mod saying;
 #[cfg(test)]
 mod tests;
 mod view;
@@ -14,5 +15,6 @@ pub use laws::{
     ordinary_numbers_are_known, signed_read_again,
 };
 pub use message::Fields;
+pub use saying::{begin, say, write};
 pub use view::{Short, View};
-pub use writer::{Number, Writer, write};
+pub use writer::{Scalar, Writer};

@@ -1,11 +1,11 @@
-// A message of a role, whose fields are known by name.
+//! A message of a role, whose fields are known by name.
 
-ghost use Rattle.std.specs.Prelude.{◌≡◌, ◌<◌, ◌^◌, ◌≢◌, ◌≤◌, List, Option, Some, Contains, IfOk, IfSome, OnErr, length, option_map, is_some, pos, ℤ};
+ghost use Rattle.std.specs.Prelude.{◌≡◌, ◌<◌, ◌^◌, ◌≢◌, ◌≤◌, List, Option, Some, Contains, IfOk, IfSome, OnErr, length, option_map, is_some, pos, true, ℤ};
 ghost use Rattle.t7_layout.specs.declared.words.Kind.TheVariants.{Unsigned, Signed, Raw};
 ghost use Rattle.t7_layout.specs.Lookups.{find_role};
 ghost use Rattle.t7_layout.specs.Roles.{kind_of, required, width_in, family_of};
 ghost use Rattle.t7_fields.specs.Spelling.{Fits};
-ghost use Rattle.t7_fields.specs.Messages.{Message, first_unset, said};
+ghost use Rattle.t7_fields.specs.Messages.{Message, first_unset, said_number};
 
 use crate::view::{Short, View};
 use byteorder::{BigEndian, ByteOrder};
@@ -55,6 +55,18 @@ impl<'a> Fields<'a> {
         Fields { table, role, view }
     }
 
+    /// A message of a role, of bytes that are known to be no fewer than the role's template, and as many as BodyLen says.
+    pub fn known(table: &'a Table, role: Role, bytes: &'a [u8]) -> Fields<'a>
+        requires { IfSome (find_role table.now role) (λ t. Fits t bytes.now) }
+        ensures message { result ≡ record { layouts = table.now; role = role; bytes = bytes.now } }
+    {
+        Fields {
+            table,
+            role,
+            view: View::known(table.role(role), bytes),
+        }
+    }
+
     /// The role.
     pub fn role(&self) -> Role
         ensures { result ≡ self.now.role }
@@ -63,43 +75,60 @@ impl<'a> Fields<'a> {
     }
 
     /// What an unsigned field that the role requires says. None exactly where it says that it has no value.
-    #[tactic(auto, using(crate::proofs::MessageFacts::field_of_role), unfolding(crate::specs::Messages::said, crate::specs::Messages::number_at, crate::specs::Messages::number_as))]
     pub fn unsigned(&self, name: FieldName) -> Option<u64>
         requires there { Contains (required self.now.role) name }
         requires kind { kind_of name ≡ Unsigned }
-        ensures said { option_map pos result ≡ said self.now name }
+        ensures said { option_map pos result ≡ said_number self.now name }
         ensures small { IfSome result (λ n. n < 256 ^ width_in (family_of self.now.role) name) }
     {
         self.view.unsigned(self.table.at(self.role, name))
     }
 
     /// What a signed field that the role requires says. None exactly where it says that it has no value.
-    #[tactic(auto, using(crate::proofs::MessageFacts::field_of_role), unfolding(crate::specs::Messages::said, crate::specs::Messages::number_at, crate::specs::Messages::number_as))]
     pub fn signed(&self, name: FieldName) -> Option<i64>
         requires there { Contains (required self.now.role) name }
         requires kind { kind_of name ≡ Signed }
-        ensures { result ≡ said self.now name }
+        ensures { result ≡ said_number self.now name }
     {
         self.view.signed(self.table.at(self.role, name))
     }
 
+    /// What an unsigned field that the role requires says, where it is known to say something.
+    pub fn known_unsigned(&self, name: FieldName) -> u64
+        requires there { Contains (required self.now.role) name }
+        requires kind { kind_of name ≡ Unsigned }
+        requires known { is_some (said_number self.now name) ≡ true }
+        ensures said { Some (pos result) ≡ said_number self.now name }
+        ensures small { result < 256 ^ width_in (family_of self.now.role) name }
+    {
+        self.view.known_unsigned(self.table.at(self.role, name))
+    }
+
+    /// What a signed field that the role requires says, where it is known to say something.
+    pub fn known_signed(&self, name: FieldName) -> i64
+        requires there { Contains (required self.now.role) name }
+        requires kind { kind_of name ≡ Signed }
+        requires known { is_some (said_number self.now name) ≡ true }
+        ensures { Some result ≡ said_number self.now name }
+    {
+        self.view.known_signed(self.table.at(self.role, name))
+    }
+
     /// What a field of 16 raw bytes says, which are a number with the highest byte first.
-    #[tactic(auto, using(crate::proofs::MessageFacts::field_of_role, crate::proofs::MessageFacts::said_raw))]
     pub fn long(&self, name: FieldName) -> u128
         requires there { Contains (required self.now.role) name }
         requires kind { kind_of name ≡ Raw }
         requires width { width_in (family_of self.now.role) name ≡ 16 }
-        ensures { Some (pos result) ≡ said self.now name }
+        ensures { Some (pos result) ≡ said_number self.now name }
     {
         BigEndian::read_u128(self.view.raw(self.table.at(self.role, name)))
     }
 
     // A field of raw bytes always says something.
-    #[tactic(auto, using(crate::proofs::MessageFacts::said_raw))]
     fn is_written(&self, name: FieldName) -> bool
         requires there { Contains (required self.now.role) name }
         requires kind { kind_of name ≡ Raw }
-        ensures { result ≡ is_some (said self.now name) }
+        ensures { result ≡ is_some (said_number self.now name) }
     {
         let _place = self.table.at(self.role, name);
         true
@@ -108,7 +137,7 @@ impl<'a> Fields<'a> {
     /// Whether a field that the role requires says anything. One of raw bytes always does.
     pub fn is_set(&self, name: FieldName) -> bool
         requires there { Contains (required self.now.role) name }
-        ensures { result ≡ is_some (said self.now name) }
+        ensures { result ≡ is_some (said_number self.now name) }
     {
         match name.kind() {
             Kind::Unsigned => self.unsigned(name).is_some(),

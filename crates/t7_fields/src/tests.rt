@@ -1,28 +1,26 @@
-// Messages of the sample table, against bytes that a reader of the manuals expects.
+//! Messages of the sample table, against bytes that a reader of the manuals expects.
 
 ghost use Rattle.std.specs.Prelude.{◌≡◌, ◌≤◌, length};
 ghost use Rattle.t7_layout.specs.declared.roles.Role.TheVariants as role;
 
-use crate::{Fields, Number, View, write};
+use crate::{Fields, Scalar, View, write};
 use std::test::Fail;
 use t7_layout::{FieldName, Role, Table};
 use t7_sample::SAMPLE;
 
 // Writes the answer to logon 1, with a heartbeat interval of 30 seconds.
-#[tactic(auto, unfolding(t7_layout::specs::Roles::family_of, crate::specs::Writing::longest))]
 fn write_logon_response(table: &Table, out: &mut [u8]) -> usize
     requires { 1024 ≤ length out.old }
 {
     let _templates = table.templates();
     let fields = [
-        (FieldName::MsgSeqNum, Number::Word(1)),
-        (FieldName::HeartBtInt, Number::Word(30_000)),
+        (FieldName::MsgSeqNum, Scalar::Word(1)),
+        (FieldName::HeartBtInt, Scalar::Word(30_000)),
     ];
     write(table, Role::LogonResponse, &fields, out)
 }
 
 // What it says.
-#[tactic(auto, unfolding(t7_layout::specs::Roles::required, t7_layout::specs::Roles::kind_of))]
 fn numbers(message: &Fields<'_>) -> (Option<u64>, Option<u64>)
     requires { message.now.role ≡ role.LogonResponse }
 {

@@ -1,9 +1,9 @@
-// A template laid over the bytes of a message.
+//! A template laid over the bytes of a message.
 
-ghost use Rattle.std.specs.Prelude.{◌≡◌, ◌<◌, ◌^◌, IfSome, ◌≤◌, ◌+◌, IfOk, OnErr, Contains, List, Some, ℕ, length, take, drop, option_map, pos, slice_get};
+ghost use Rattle.std.specs.Prelude.{◌≡◌, ◌<◌, ◌^◌, IfSome, ◌≤◌, ◌+◌, IfOk, OnErr, Contains, List, Some, ℕ, length, take, drop, is_some, option_map, pos, slice_get, true};
 ghost use Rattle.byteorder.specs.Endian.{little_number, twos_complement};
 ghost use Rattle.t7_layout.specs.declared.words.Kind.TheVariants.{Unsigned, Signed, Raw};
-ghost use Rattle.t7_layout.specs.Layouts.{Layout, Place};
+ghost use Rattle.t7_layout.specs.Layouts.{IsLayout, IsNumberWidth, Layout, Place};
 ghost use Rattle.t7_fields.specs.Spelling.{Bytes, Fits, Number, Seen, Spells, Value, body_length, known_signed, known_unsigned, length_width, raw_at, signed_at, template_id, unsigned_at};
 ghost use Rattle.t7_fields.specs.Records.{record_in};
 
@@ -28,17 +28,17 @@ pub struct View<'a> {
 }
 
 impl<'a> Model for View<'a> {
-    ghost use Rattle.t7_fields.specs.Spelling.{Fits, Seen};
+    ghost use Rattle.t7_fields.specs.Inside.{IsLaid};
+    ghost use Rattle.t7_fields.specs.Spelling.{Seen};
 
     ghost Value = { Seen };
 
     ghost view = { λ a. record { layout = a.template.now; bytes = a.bytes.now } };
 
-    ghost invariant = { λ a. Fits a.template.now a.bytes.now };
+    ghost invariant = { λ a. IsLaid a.template.now a.bytes.now };
 }
 
 /// How many bytes BodyLen has.
-#[tactic(auto, unfolding(crate::specs::Spelling::length_width))]
 pub(crate) fn length_width(family: Family) -> usize
     ensures value { result ≡ length_width family }
     ensures low { 1 ≤ result }
@@ -56,42 +56,38 @@ fn part(bytes: &[u8], start: usize, count: usize) -> &[u8]
     ensures bytes { result.now ≡ take count (drop start bytes.now) }
     ensures width { length result.now ≡ count }
 {
-    let (_, rest) = bytes.split_at(start);
-    let (found, _) = rest.split_at(count);
-    found
+    &bytes[start..start + count]
 }
 
-// The number of so many bytes, the lowest first. Those of 1, 2, 4 and 8 bytes, as every field has, are read at once.
-fn read_number(bytes: &[u8], width: usize) -> u64
-    requires low { 1 ≤ width }
-    requires high { width ≤ 8 }
-    requires room { width ≤ length bytes.now }
-    ensures { result ≡ little_number width bytes.now }
+// The number in BodyLen.
+fn body_length(family: Family, bytes: &[u8]) -> u64
+    requires { 4 ≤ length bytes.now }
+    ensures { result ≡ body_length family bytes.now }
 {
-    match width {
-        1 => LittleEndian::read_uint(bytes, 1),
-        2 => LittleEndian::read_uint(bytes, 2),
-        4 => LittleEndian::read_uint(bytes, 4),
-        8 => LittleEndian::read_uint(bytes, 8),
-        _ => LittleEndian::read_uint(bytes, width),
+    match family {
+        Family::Eti => LittleEndian::read_u32(bytes) as u64,
+        Family::Eobi => LittleEndian::read_u16(bytes) as u64,
     }
 }
 
-// The same number, and how large it can be.
+// The number of 1, 2, 4 or 8 bytes, the lowest first.
 fn number_of(bytes: &[u8], width: usize) -> u64
-    requires low { 1 ≤ width }
-    requires high { width ≤ 8 }
+    requires width { IsNumberWidth width }
     requires room { width ≤ length bytes.now }
     ensures value { result ≡ little_number width bytes.now }
     ensures small { result < 256 ^ width }
 {
-    read_number(bytes, width)
+    match width {
+        1 => LittleEndian::read_uint(bytes, 1),
+        2 => LittleEndian::read_u16(bytes) as u64,
+        4 => LittleEndian::read_u32(bytes) as u64,
+        _ => LittleEndian::read_u64(bytes),
+    }
 }
 
-// The signed number of so many bytes, the lowest first, in two's complement.
+// The signed number of 1, 2, 4 or 8 bytes, the lowest first, in two's complement.
 fn signed_of(bytes: &[u8], width: usize) -> i64
-    requires low { 1 ≤ width }
-    requires high { width ≤ 8 }
+    requires width { IsNumberWidth width }
     requires room { width ≤ length bytes.now }
     ensures { result ≡ twos_complement width (little_number width bytes.now) }
 {
@@ -99,8 +95,7 @@ fn signed_of(bytes: &[u8], width: usize) -> i64
         1 => LittleEndian::read_int(bytes, 1),
         2 => LittleEndian::read_int(bytes, 2),
         4 => LittleEndian::read_int(bytes, 4),
-        8 => LittleEndian::read_int(bytes, 8),
-        _ => LittleEndian::read_int(bytes, width),
+        _ => LittleEndian::read_int(bytes, 8),
     }
 }
 
@@ -122,7 +117,6 @@ impl<'a> View<'a> {
 
     /// Lays a template over bytes. Short exactly where these are fewer than the template has, or the number in BodyLen
     /// is not their count.
-    #[tactic(auto, unfolding(crate::specs::Spelling::body_length))]
     pub fn of(template: &'a Template, bytes: &'a [u8]) -> Result<View<'a>, Short>
         ensures view { IfOk result (λ v. v ≡ record { layout = template.now; bytes = bytes.now }) }
         ensures fits { IfOk result (λ v. Fits template.now bytes.now) }
@@ -132,11 +126,19 @@ impl<'a> View<'a> {
         if bytes.len() < template.len() {
             return Err(Short);
         }
-        let width = length_width(template.family());
-        if read_number(bytes, width) != bytes.len() as u64 {
+        if body_length(template.family(), bytes) != bytes.len() as u64 {
             return Err(Short);
         }
         Ok(View { template, bytes })
+    }
+
+    /// Lays a template over bytes that are known to be no fewer than the template's, and as many as BodyLen says.
+    pub fn known(template: &'a Template, bytes: &'a [u8]) -> View<'a>
+        requires layout { IsLayout template.now }
+        requires fits { Fits template.now bytes.now }
+        ensures { result ≡ record { layout = template.now; bytes = bytes.now } }
+    {
+        View { template, bytes }
     }
 
     /// The bytes of a field of the template, in place.
@@ -150,19 +152,16 @@ impl<'a> View<'a> {
     }
 
     // The bytes of a field.
-    #[tactic(auto, unfolding(crate::specs::Spelling::raw_at))]
     fn bytes_of(&self, f: FieldRef) -> &'a [u8]
         requires { Contains self.now.layout.fields f }
         ensures bytes { result.now ≡ raw_at f self.now.bytes }
         ensures width { length result.now ≡ f.width }
         ensures some { 1 ≤ f.width }
     {
-        let _size = self.template.len();
         part(self.bytes, f.offset(), f.width())
     }
 
     // The number of an unsigned field, where it has one.
-    #[tactic(auto, unfolding(crate::specs::Spelling::known_unsigned, crate::specs::Spelling::unsigned_at))]
     fn read_unsigned(&self, f: FieldRef) -> Option<u64>
         requires there { Contains self.now.layout.fields f }
         requires kind { f.kind ≡ Unsigned }
@@ -172,7 +171,7 @@ impl<'a> View<'a> {
     {
         let bytes = self.bytes_of(f);
         let number = number_of(bytes, f.width());
-        if f.null() == Some(number as i128) {
+        if f.is_null(number) {
             None
         } else {
             Some(number)
@@ -180,7 +179,6 @@ impl<'a> View<'a> {
     }
 
     // The number of a signed field, where it has one.
-    #[tactic(auto, unfolding(crate::specs::Spelling::known_signed, crate::specs::Spelling::signed_at))]
     fn read_signed(&self, f: FieldRef) -> Option<i64>
         requires there { Contains self.now.layout.fields f }
         requires kind { f.kind ≡ Signed }
@@ -189,7 +187,7 @@ impl<'a> View<'a> {
     {
         let bytes = self.bytes_of(f);
         let value = signed_of(bytes, f.width());
-        if f.null() == Some(value as i128) {
+        if f.is_signed_null(value) {
             None
         } else {
             Some(value)
@@ -215,5 +213,27 @@ impl<'a> View<'a> {
         ensures spelled { (r : List Value) (k : ℕ) → Spells self.now.layout r self.now.bytes → slice_get self.now.layout.fields k ≡ Some f → slice_get r k ≡ Some (Number result) }
     {
         self.read_signed(f)
+    }
+    /// The number of an unsigned field of the template that is known to have one: its bytes are not those that stand for
+    /// no value.
+    pub fn known_unsigned(&self, f: FieldRef) -> u64
+        requires there { Contains self.now.layout.fields f }
+        requires kind { f.kind ≡ Unsigned }
+        requires known { is_some (known_unsigned f (unsigned_at f self.now.bytes)) ≡ true }
+        ensures reads { Some result ≡ known_unsigned f (unsigned_at f self.now.bytes) }
+        ensures small { result < 256 ^ f.width }
+    {
+        number_of(self.bytes_of(f), f.width())
+    }
+
+    /// The number of a signed field of the template that is known to have one: its bytes are not those that stand for no
+    /// value.
+    pub fn known_signed(&self, f: FieldRef) -> i64
+        requires there { Contains self.now.layout.fields f }
+        requires kind { f.kind ≡ Signed }
+        requires known { is_some (known_signed f (signed_at f self.now.bytes)) ≡ true }
+        ensures { Some result ≡ known_signed f (signed_at f self.now.bytes) }
+    {
+        signed_of(self.bytes_of(f), f.width())
     }
 }

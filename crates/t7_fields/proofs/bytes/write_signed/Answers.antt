@@ -1,7 +1,7 @@
 use Rattle.std.proofs.Common.{◌∙◌, ap, w64}
 use Rattle.std.proofs.lemmas.Int.{to_z-of_z}
 use Rattle.t7_fields.specs.Puts.{patch}
-use Rattle.t7_fields.proofs.BytesFacts.{low_written}
+use Rattle.t7_layout.proofs.BytesFacts.{low_written}
 use Rattle.t7_fields.proofs.bytes.write_signed.Goals as goal
 
 pub returns : goal.returns

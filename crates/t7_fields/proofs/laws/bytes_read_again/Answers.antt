@@ -1,4 +1,4 @@
-use Rattle.t7_fields.proofs.BytesFacts.{bytes_again}
+use Rattle.t7_layout.proofs.BytesFacts.{bytes_again}
 use Rattle.t7_fields.proofs.laws.bytes_read_again.Goals as goal
 
 pub returns : goal.returns

@@ -1,4 +1,4 @@
-use Rattle.t7_fields.proofs.BytesFacts.{number_again}
+use Rattle.t7_layout.proofs.BytesFacts.{number_again}
 use Rattle.t7_fields.proofs.laws.numbers_read_again.Goals as goal
 
 pub returns : goal.returns

@@ -2,7 +2,7 @@ use Rattle.std.proofs.Common.{◌∙◌, ap}
 use Rattle.byteorder.specs.Endian.{twos_complement}
 use Rattle.t7_layout.specs.declared.words.Kind.TheVariants.{Signed}
 use Rattle.t7_fields.specs.Spelling.{complement}
-use Rattle.t7_fields.proofs.BytesFacts.{complement_fits, number_again, signed_again}
+use Rattle.t7_layout.proofs.BytesFacts.{complement_fits, number_again, signed_again}
 use Rattle.t7_fields.proofs.laws.signed_read_again.Goals as goal
 
 pub returns : goal.returns
