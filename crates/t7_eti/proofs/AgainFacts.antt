@@ -15,9 +15,9 @@ use Rattle.t7_layout.specs.Layouts.{Layout, Place}
 use Rattle.t7_layout.specs.Lookups.{find_role, place_in, role_of_layout}
 use Rattle.t7_layout.specs.Roles.{name_number, required}
 use Rattle.t7_layout.proofs.FoundFacts.{role_own}
-use Rattle.t7_fields.specs.declared.writer.Number.{Number}
-use Rattle.t7_fields.specs.declared.writer.Number.TheVariants as number
-use Rattle.t7_fields.specs.Messages.{Message, first_unset, is_among, number_at, said, value}
+use Rattle.t7_fields.specs.declared.writer.Scalar.{Scalar}
+use Rattle.t7_fields.specs.declared.writer.Scalar.TheVariants as number
+use Rattle.t7_fields.specs.Messages.{Message, first_unset, is_among, number_at, said_number, value}
 use Rattle.t7_fields.specs.Writing.{IsWritten, Says, meaning, unset_number}
 use Rattle.t7_eti.specs.declared.nulls.FieldFault.TheVariants as fault
 use Rattle.t7_eti.specs.declared.reason.Reason.{Reason}
@@ -41,13 +41,13 @@ use Rattle.t7_eti.proofs.RangeFacts.{both}
 abbrev message : List Layout → Role → List ℕ → Message
 message layouts r b = record { layouts = layouts; role = r; bytes = b }
 
-abbrev names : List (FieldName × Number) → List FieldName
-names ps = map (λ (p : FieldName × Number). p.0) ps
+abbrev names : List (FieldName × Scalar) → List FieldName
+names ps = map (λ (p : FieldName × Scalar). p.0) ps
 
-says_value : (layouts : List Layout) (r : Role) (b : List ℕ) (ps : List (FieldName × Number)) (k : ℕ) (p : FieldName × Number) → Says layouts r b ps → slice_get ps k ≡ Some p → value (message layouts r b) p.0 ≡ meaning p.1
+says_value : (layouts : List Layout) (r : Role) (b : List ℕ) (ps : List (FieldName × Scalar)) (k : ℕ) (p : FieldName × Scalar) → Says layouts r b ps → slice_get ps k ≡ Some p → value (message layouts r b) p.0 ≡ meaning p.1
 says_value layouts r b ps k p h e = value_is (message layouts r b) p.0 (meaning p.1) (h.each k p e)
 
-says_tail : (layouts : List Layout) (r : Role) (b : List ℕ) (p : FieldName × Number) (ps : List (FieldName × Number)) → Says layouts r b (p ∷ ps) → Says layouts r b ps
+says_tail : (layouts : List Layout) (r : Role) (b : List ℕ) (p : FieldName × Scalar) (ps : List (FieldName × Scalar)) → Says layouts r b (p ∷ ps) → Says layouts r b ps
 says_tail layouts r b p ps h = record { each = λ k q e. h.each (suc k) q e }
 
 yes_and : (a b : Bool) → a ≡ true → b ≡ true → (a && b) ≡ true
@@ -61,16 +61,16 @@ no_of_not true e = cc e
 no_of_not false e = refl
 
 -- each number counts
-counts_each : List (FieldName × Number) → Bool
+counts_each : List (FieldName × Scalar) → Bool
 counts_each [] = true
 counts_each (p ∷ ps) = not (counts_as_null p.0 (meaning p.1)) && counts_each ps
 
-none_missing_said : (layouts : List Layout) (r : Role) (b : List ℕ) (ps : List (FieldName × Number)) → Says layouts r b ps → counts_each ps ≡ true → first_missing (message layouts r b) (names ps) ≡ None
+none_missing_said : (layouts : List Layout) (r : Role) (b : List ℕ) (ps : List (FieldName × Scalar)) → Says layouts r b ps → counts_each ps ≡ true → first_missing (message layouts r b) (names ps) ≡ None
 unfolding first_missing is_missing counts_each
 none_missing_said layouts r b [] h c = refl
 none_missing_said layouts r b (p ∷ ps) h c =
     let (one, more) = both _ _ c in
-    let said_is : said (message layouts r b) p.0 ≡ Some (meaning p.1) = h.each 0 p refl in
+    let said_is : said_number (message layouts r b) p.0 ≡ Some (meaning p.1) = h.each 0 p refl in
     let here : counts_as_null p.0 (meaning p.1) ≡ false = no_of_not _ one in
     let rest = none_missing_said layouts r b ps (says_tail layouts r b p ps h) more in
     rw (said_is, here) rest
@@ -150,7 +150,7 @@ request_in_again layouts r b askable h = by (find_role layouts (request_role r))
     by (Some t) e = rw (role_own layouts (request_role r) t e) (request_again layouts r b askable h.says)
 
 -- the fields of a response that are looked for
-looked : Response → List (FieldName × Number)
+looked : Response → List (FieldName × Scalar)
 looked (response.Reject seq reason) = (name.SessionRejectReason, number.Word (reason_number reason)) ∷ []
 looked r = response_fields r
 
@@ -192,25 +192,25 @@ response_is (response.Kept n (kept.DeletedAll security count)) = refl
 response_is (response.Kept n (kept.Cleared security count)) = refl
 response_is (response.Kept n (kept.Exec order side leaves cum last_qty last_price)) = refl
 
-none_unset_said : (layouts : List Layout) (r : Role) (b : List ℕ) (ps : List (FieldName × Number)) → Says layouts r b ps → first_unset (message layouts r b) (names ps) ≡ None
+none_unset_said : (layouts : List Layout) (r : Role) (b : List ℕ) (ps : List (FieldName × Scalar)) → Says layouts r b ps → first_unset (message layouts r b) (names ps) ≡ None
 unfolding first_unset
 none_unset_said layouts r b [] h = refl
 none_unset_said layouts r b (p ∷ ps) h =
-    let said_is : said (message layouts r b) p.0 ≡ Some (meaning p.1) = h.each 0 p refl in
+    let said_is : said_number (message layouts r b) p.0 ≡ Some (meaning p.1) = h.each 0 p refl in
     rw said_is (none_unset_said layouts r b ps (says_tail layouts r b p ps h))
 
 -- each number is in its range
-ranged_each : List (FieldName × Number) → Bool
+ranged_each : List (FieldName × Scalar) → Bool
 ranged_each [] = true
 ranged_each (p ∷ ps) = in_range p.0 (meaning p.1) && ranged_each ps
 
-none_out_said : (layouts : List Layout) (r : Role) (b : List ℕ) (ps : List (FieldName × Number)) → Says layouts r b ps → ranged_each ps ≡ true → first_out (message layouts r b) (names ps) ≡ None
+none_out_said : (layouts : List Layout) (r : Role) (b : List ℕ) (ps : List (FieldName × Scalar)) → Says layouts r b ps → ranged_each ps ≡ true → first_out (message layouts r b) (names ps) ≡ None
 unfolding first_out fits ranged_each
 none_out_said layouts r b [] h c = refl
 none_out_said layouts r b (p ∷ ps) h c =
     let (inside, more) = both (in_range p.0 (meaning p.1)) (ranged_each ps) c in
     let here : in_range p.0 (meaning p.1) ≡ true = inside in
-    let said_is : said (message layouts r b) p.0 ≡ Some (meaning p.1) = h.each 0 p refl in
+    let said_is : said_number (message layouts r b) p.0 ≡ Some (meaning p.1) = h.each 0 p refl in
     let rest = none_out_said layouts r b ps (says_tail layouts r b p ps h) more in
     rw (said_is, here) rest
 
@@ -300,14 +300,14 @@ response_ranged (response.Kept n (kept.Exec order side leaves cum last_qty last_
 
 -- what a Reject says of MsgSeqNum where nothing was put in it
 reject_unset : (layouts : List Layout) (b : List ℕ) (x : Reason) → IsWritten layouts role.Reject (reject_fields None x) b
-    → said (message layouts role.Reject b) name.MsgSeqNum ≡ option_and_then (λ f. unset_number f.null) (place_in layouts role.Reject name.MsgSeqNum)
-unfolding said reject_fields
+    → said_number (message layouts role.Reject b) name.MsgSeqNum ≡ option_and_then (λ f. unset_number f.null) (place_in layouts role.Reject name.MsgSeqNum)
+unfolding said_number reject_fields
 reject_unset layouts b x h = by (place_in layouts role.Reject name.MsgSeqNum) refl (λ f e. h.unset name.MsgSeqNum f e among)
   where
     among : is_among name.MsgSeqNum (name.BodyLen ∷ name.TemplateID ∷ name.SessionRejectReason ∷ []) ≡ false
     among = unfold is_among name_number in refl
 
-    by : (o : Option Place) → place_in layouts role.Reject name.MsgSeqNum ≡ o → ((f : Place) → place_in layouts role.Reject name.MsgSeqNum ≡ Some f → said (message layouts role.Reject b) name.MsgSeqNum ≡ unset_number f.null)
+    by : (o : Option Place) → place_in layouts role.Reject name.MsgSeqNum ≡ o → ((f : Place) → place_in layouts role.Reject name.MsgSeqNum ≡ Some f → said_number (message layouts role.Reject b) name.MsgSeqNum ≡ unset_number f.null)
         → option_and_then (λ f. number_at f b) o ≡ option_and_then (λ f. unset_number f.null) o
     by None e more = refl
     by (Some f) e more = rw e at (more f e)

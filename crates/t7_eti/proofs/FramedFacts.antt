@@ -5,9 +5,9 @@ use Rattle.t7_layout.specs.declared.roles.FieldName.{FieldName}
 use Rattle.t7_layout.specs.declared.roles.Role.{Role}
 use Rattle.t7_layout.specs.Layouts.{IsLayout, Layout}
 use Rattle.t7_layout.specs.Lookups.{IsTable, find_role}
-use Rattle.t7_fields.specs.declared.writer.Number.{Number}
+use Rattle.t7_fields.specs.declared.writer.Scalar.{Scalar}
 use Rattle.t7_fields.specs.Spelling.{Fits}
-use Rattle.t7_fields.specs.Writing.{AreSaid, AreSized, IsWritten, message_of}
+use Rattle.t7_fields.specs.Writing.{AreSaid, AreSized, IsWritten, message_saying}
 use Rattle.t7_eti.specs.Framed.{ResponsesAreFrames}
 use Rattle.t7_eti.specs.Saying.{response_bytes, response_fields, response_role}
 use Rattle.t7_eti.proofs.AgainFacts.{response_under}
@@ -26,7 +26,7 @@ role_there : (layouts : List Layout) (role : Role) (t : Layout) → find_role la
 unfolding find_role
 role_there layouts role t is = found_there _ layouts t is
 
-pub responses_are_frames : ((layouts : List Layout) (role : Role) (ps : List (FieldName × Number)) → IsTable layouts → AreSaid layouts role ps → AreSized ps → IsWritten layouts role ps (message_of layouts role ps))
+pub responses_are_frames : ((layouts : List Layout) (role : Role) (ps : List (FieldName × Scalar)) → IsTable layouts → AreSaid layouts role ps → AreSized ps → IsWritten layouts role ps (message_saying layouts role ps))
     → ResponsesAreFrames
 responses_are_frames law layouts r t table found ranged known sized =
     let written = law layouts (response_role r) (response_fields r) table (response_said layouts r known) sized in

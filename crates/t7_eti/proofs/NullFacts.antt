@@ -11,7 +11,7 @@ use Rattle.t7_layout.specs.declared.words.Family.{Family}
 use Rattle.t7_layout.specs.declared.words.Family.TheVariants.{Eti, Eobi}
 use Rattle.t7_layout.specs.declared.roles.Role.TheVariants as role
 use Rattle.t7_layout.specs.Roles.{name_number, required, width_in}
-use Rattle.t7_fields.specs.Messages.{Message, first_unset, is_among, said, value}
+use Rattle.t7_fields.specs.Messages.{Message, first_unset, is_among, said_number, value}
 use Rattle.t7_fields.proofs.NameFacts.{among_contains}
 use Rattle.t7_eti.specs.Requests.{is_numbered, is_request, number_of}
 use Rattle.t7_eti.specs.Nulls.{HasFields, counts_as_null, first_missing, is_missing, sought}
@@ -53,11 +53,12 @@ find_none {X = X} p (y ∷ ys) x h c = by (p y) refl h c (find_none p ys x)
     by false e h (suc k, inside, is) more = more h (k, omega arith, is)
 
 -- where no field is missing, each says a number that does not count as null
-says_what_counts : (m : Message) (name : FieldName) → first_missing m (sought m.role) ≡ None → is_among name (sought m.role) ≡ true → (z : ℤ) × (said m name ≡ Some z) × (counts_as_null name z ≡ false)
+says_what_counts : (m : Message) (name : FieldName) → first_missing m (sought m.role) ≡ None → is_among name (sought m.role) ≡ true → (z : ℤ) × (said_number m name ≡ Some z) × (counts_as_null name z ≡ false)
 unfolding first_missing is_missing
-says_what_counts m name none there = by (said m name) refl (find_none (is_missing m) (sought m.role) name none (among_contains name (sought m.role) there))
+says_what_counts m name none there =
+    by (said_number m name) refl (find_none (is_missing m) (sought m.role) name none (among_contains name (sought m.role) there))
   where
-    by : (o : Option ℤ) → said m name ≡ o → option_map_or (counts_as_null name) o true ≡ false → (z : ℤ) × (said m name ≡ Some z) × (counts_as_null name z ≡ false)
+    by : (o : Option ℤ) → said_number m name ≡ o → option_map_or (counts_as_null name) o true ≡ false → (z : ℤ) × (said_number m name ≡ Some z) × (counts_as_null name z ≡ false)
     by None e h = cc h
     by (Some z) e h = (z, e, h)
 
@@ -65,14 +66,14 @@ pub none_missing : (m : Message) (o : Option FieldName) → o ≡ first_missing 
 none_missing m (Some name) e = tt
 none_missing m None e = record { each = λ name there. let (z, said_is, counts) = says_what_counts m name (sym e) there in ap is_some said_is }
 
-pub never_none : (m : Message) (name : FieldName) → HasFields m → is_among name (sought m.role) ≡ true → said m name ≡ None → ⊥
+pub never_none : (m : Message) (name : FieldName) → HasFields m → is_among name (sought m.role) ≡ true → said_number m name ≡ None → ⊥
 never_none m name whole there e = let h = whole.each name there in cc (rw e at h)
 
-pub value_is : (m : Message) (name : FieldName) (z : ℤ) → said m name ≡ Some z → value m name ≡ z
+pub value_is : (m : Message) (name : FieldName) (z : ℤ) → said_number m name ≡ Some z → value m name ≡ z
 unfolding value
 value_is m name z e = rw e refl
 
-pub value_known : (m : Message) (name : FieldName) (n : ℕ) → Some (pos n) ≡ said m name → n ≡ nat_abs (value m name)
+pub value_known : (m : Message) (name : FieldName) (n : ℕ) → Some (pos n) ≡ said_number m name → n ≡ nat_abs (value m name)
 value_known m name n e = sym (ap nat_abs (value_is m name (pos n) (sym e)))
 
 pub number_width : (family : Family) → width_in family name.MsgSeqNum ≡ 4
@@ -142,19 +143,19 @@ pub number_never : (m : Message) → is_numbered m.role ≡ false → number_of 
 unfolding number_of
 number_never m e = rw e refl
 
-pub number_none : (m : Message) (o : Option ℕ) → option_map pos o ≡ said m name.MsgSeqNum → o ≡ None → number_of m ≡ None
+pub number_none : (m : Message) (o : Option ℕ) → option_map pos o ≡ said_number m name.MsgSeqNum → o ≡ None → number_of m ≡ None
 unfolding number_of is_missing
 number_none m o e none = by (is_numbered m.role)
   where
-    by : (b : Bool) → cond b (cond (option_map_or (counts_as_null name.MsgSeqNum) (said m name.MsgSeqNum) true) None (Some (nat_abs (value m name.MsgSeqNum)))) None ≡ None
+    by : (b : Bool) → cond b (cond (option_map_or (counts_as_null name.MsgSeqNum) (said_number m name.MsgSeqNum) true) None (Some (nat_abs (value m name.MsgSeqNum)))) None ≡ None
     by true = rw (← e, none) refl
     by false = refl
 
-pub number_some : (m : Message) (o : Option ℕ) (n : ℕ) → is_numbered m.role ≡ true → option_map pos o ≡ said m name.MsgSeqNum → o ≡ Some n
+pub number_some : (m : Message) (o : Option ℕ) (n : ℕ) → is_numbered m.role ≡ true → option_map pos o ≡ said_number m name.MsgSeqNum → o ≡ Some n
     → number_of m ≡ cond (int_eq (pos n) (pos 4_294_967_295)) None (Some n)
 unfolding number_of is_missing counts_as_null
 number_some m o n numbered e some =
-    let says : said m name.MsgSeqNum ≡ Some (pos n) = sym e ∙ ap (option_map pos) some in
+    let says : said_number m name.MsgSeqNum ≡ Some (pos n) = sym e ∙ ap (option_map pos) some in
     rw (numbered, value_is m name.MsgSeqNum (pos n) says, says) refl
 
 pub number_equal : (n : ℕ) → n ≡ 4_294_967_295 → int_eq (pos n) (pos 4_294_967_295) ≡ true
@@ -172,9 +173,9 @@ pub abs_said : (r : Option ℕ) (o : Option ℤ) → option_map pos r ≡ o → 
 abs_said None o e = rw (← e) refl
 abs_said (Some n) o e = rw (← e) refl
 
-none_unset_says : (m : Message) (name : FieldName) (names : List FieldName) → first_unset m names ≡ None → Contains names name → is_some (said m name) ≡ true
+none_unset_says : (m : Message) (name : FieldName) (names : List FieldName) → first_unset m names ≡ None → Contains names name → is_some (said_number m name) ≡ true
 unfolding first_unset
-none_unset_says m name names none there = by (is_some (said m name)) (find_none (λ name. not (is_some (said m name))) names name none there)
+none_unset_says m name names none there = by (is_some (said_number m name)) (find_none (λ name. not (is_some (said_number m name))) names name none there)
   where
     by : (b : Bool) → not b ≡ false → b ≡ true
     by true h = refl

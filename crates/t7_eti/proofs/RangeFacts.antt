@@ -11,7 +11,7 @@ use Rattle.t7_layout.specs.declared.roles.Role.TheVariants as role
 use Rattle.t7_layout.specs.declared.roles.FieldName.{FieldName}
 use Rattle.t7_layout.specs.declared.roles.FieldName.TheVariants as name
 use Rattle.t7_layout.specs.Roles.{kind_of, name_number, required}
-use Rattle.t7_fields.specs.Messages.{Message, is_among, said, value}
+use Rattle.t7_fields.specs.Messages.{Message, is_among, said_number, value}
 use Rattle.t7_fields.proofs.NameFacts.{among_contains}
 use Rattle.t7_eti.specs.Nulls.{sought}
 use Rattle.t7_eti.specs.Ranges.{IsSound, first_out, fits, in_range}
@@ -62,15 +62,15 @@ raw_fits name.AggressorSide o h = cc h
 raw_fits name.TotNoOrders o h = cc h
 
 -- a field that is looked for in a sound message says a number of its range
-says_in_range : (m : Message) (name : FieldName) → IsSound m → is_among name (sought m.role) ≡ true → (z : ℤ) × (said m name ≡ Some z) × (in_range name z ≡ true)
+says_in_range : (m : Message) (name : FieldName) → IsSound m → is_among name (sought m.role) ≡ true → (z : ℤ) × (said_number m name ≡ Some z) × (in_range name z ≡ true)
 unfolding first_out fits
-says_in_range m name h there = by (said m name) refl (h.whole.each name there) (find_none (λ name. not (fits name (said m name))) (sought m.role) name h.ranged (among_contains name (sought m.role) there))
+says_in_range m name h there = by (said_number m name) refl (h.whole.each name there) (find_none (λ name. not (fits name (said_number m name))) (sought m.role) name h.ranged (among_contains name (sought m.role) there))
   where
     yes : (b : Bool) → not b ≡ false → b ≡ true
     yes true e = refl
     yes false e = cc e
 
-    by : (o : Option ℤ) → said m name ≡ o → is_some o ≡ true → not (option_map_or (in_range name) o true) ≡ false → (z : ℤ) × (said m name ≡ Some z) × (in_range name z ≡ true)
+    by : (o : Option ℤ) → said_number m name ≡ o → is_some o ≡ true → not (option_map_or (in_range name) o true) ≡ false → (z : ℤ) × (said_number m name ≡ Some z) × (in_range name z ≡ true)
     by None e some ranged = cc some
     by (Some z) e some ranged = (z, e, yes (in_range name z) ranged)
 

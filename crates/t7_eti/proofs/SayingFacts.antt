@@ -5,7 +5,7 @@ use Rattle.t7_layout.specs.declared.roles.FieldName.{FieldName}
 use Rattle.t7_layout.specs.Layouts.{Layout}
 use Rattle.t7_layout.specs.Roles.{family_of, kind_of, name_number, required, width_in}
 use Rattle.t7_layout.specs.Rows.{kind_text, same_kind}
-use Rattle.t7_fields.specs.declared.writer.Number.{Number}
+use Rattle.t7_fields.specs.declared.writer.Scalar.{Scalar}
 use Rattle.t7_fields.specs.Messages.{is_among}
 use Rattle.t7_fields.specs.Writing.{AreKnown, AreOrdinary, AreSaid, IsOrdinary, can_say, can_say_each, number_kind, number_width}
 use Rattle.t7_fields.proofs.WriteFacts.{ordinary_known}
@@ -60,12 +60,12 @@ pub kept_said : (layouts : List Layout) (n : ℕ) (k : Kept) → AreKnown layout
 kept_said layouts n k known = record { fit = kept_fits n k; known = known }
 
 -- each of a list of ordinary numbers is one
-each_ordinary : (ps : List (FieldName × Number)) → EachOrdinary ps → AreOrdinary ps
+each_ordinary : (ps : List (FieldName × Scalar)) → EachOrdinary ps → AreOrdinary ps
 each_ordinary ps h = record { each = λ p c. by ps h p c }
   where
-    by : (ps : List (FieldName × Number)) → EachOrdinary ps → (p : FieldName × Number) → Contains ps p → IsOrdinary p.1
+    by : (ps : List (FieldName × Scalar)) → EachOrdinary ps → (p : FieldName × Scalar) → Contains ps p → IsOrdinary p.1
     by [] h p c = let (k, inside, is) = c in absurd (omega arith)
-    by (q ∷ qs) h p (zero, inside, is) = let P : FieldName × Number → Type 0 = λ x. IsOrdinary x.1 in subst P is h.0
+    by (q ∷ qs) h p (zero, inside, is) = let P : FieldName × Scalar → Type 0 = λ x. IsOrdinary x.1 in subst P is h.0
     by (q ∷ qs) h p (suc k, inside, is) = by qs h.1 p (k, omega arith, is)
 
 pub request_known : (layouts : List Layout) (r : Request) → IsTable layouts → EachOrdinary (request_fields r) → AreKnown layouts (request_role r) (request_fields r)

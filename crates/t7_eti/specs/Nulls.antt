@@ -9,7 +9,7 @@ use Rattle.t7_layout.specs.declared.roles.FieldName.TheVariants as name
 use Rattle.t7_layout.specs.Layouts.{Layout}
 use Rattle.t7_layout.specs.Lookups.{find_role, role_of_layout}
 use Rattle.t7_layout.specs.Roles.{required}
-use Rattle.t7_fields.specs.Messages.{Message, is_among, said}
+use Rattle.t7_fields.specs.Messages.{Message, is_among, said_number}
 
 -- a template is the one that the table has for its role, if it has a role, as each template of a table is
 abbrev pub IsOwn : List Layout → Layout → Type 0
@@ -26,7 +26,7 @@ sought role = drop (unsought role) (required role)
 
 -- each of them says something
 pub record HasFields (m : Message) : Type 0 where
-  pub each : (name : FieldName) → is_among name (sought m.role) ≡ true → is_some (said m name) ≡ true
+  pub each : (name : FieldName) → is_among name (sought m.role) ≡ true → is_some (said_number m name) ≡ true
 
 -- a number that counts as null in a request, whatever null the table gives the field
 unfoldable pub counts_as_null : FieldName → ℤ → Bool
@@ -36,7 +36,7 @@ counts_as_null other z = false
 
 -- a field of a request says nothing, or a number that counts as null
 unfoldable pub is_missing : Message → FieldName → Bool
-is_missing m name = option_map_or (counts_as_null name) (said m name) true
+is_missing m name = option_map_or (counts_as_null name) (said_number m name) true
 
 -- the first such of these fields
 unfoldable pub first_missing : Message → List FieldName → Option FieldName

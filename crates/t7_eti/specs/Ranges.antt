@@ -4,7 +4,7 @@ use Rattle.std.specs.Option.{option_map_or}
 use Rattle.std.specs.Int.Signed.{le_z}
 use Rattle.t7_layout.specs.declared.roles.FieldName.{FieldName}
 use Rattle.t7_layout.specs.declared.roles.FieldName.TheVariants as name
-use Rattle.t7_fields.specs.Messages.{Message, said}
+use Rattle.t7_fields.specs.Messages.{Message, said_number}
 use Rattle.t7_eti.specs.Nulls.{HasFields, sought}
 
 -- from one number to another
@@ -22,11 +22,11 @@ in_range other z = true
 
 -- what a field says is in its range, where it says anything
 unfoldable pub fits : FieldName → Option ℤ → Bool
-fits name said = option_map_or (in_range name) said true
+fits name said_number = option_map_or (in_range name) said_number true
 
 -- the first of these fields whose number is out of its range
 unfoldable pub first_out : Message → List FieldName → Option FieldName
-first_out m names = find (λ name. not (fits name (said m name))) names
+first_out m names = find (λ name. not (fits name (said_number m name))) names
 
 -- each field that is looked for says a number of its range
 pub record IsSound (m : Message) : Type 0 where

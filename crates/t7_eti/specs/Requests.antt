@@ -28,20 +28,20 @@ is_request role.RetransmitMEMessageRequest = true
 is_request other = false
 
 -- a number of a field that is not signed
-abbrev pub count : Message → FieldName → ℕ
-count m name = nat_abs (value m name)
+abbrev pub natural : Message → FieldName → ℕ
+natural m name = nat_abs (value m name)
 
 -- the request of a message of a role, field by field
 unfoldable pub request_as : Role → Message → Request
-request_as role.LogonRequest m = request.Logon (count m name.MsgSeqNum) (count m name.HeartBtInt) (count m name.PartyIDSessionID)
-request_as role.LogoutRequest m = request.Logout (count m name.MsgSeqNum)
+request_as role.LogonRequest m = request.Logon (natural m name.MsgSeqNum) (natural m name.HeartBtInt) (natural m name.PartyIDSessionID)
+request_as role.LogoutRequest m = request.Logout (natural m name.MsgSeqNum)
 request_as role.NewOrderSingleRequest m =
-    request.New (count m name.MsgSeqNum) (value m name.SecurityID) (count m name.Side) (value m name.Price) (value m name.OrderQty) (count m name.ClOrdID)
+    request.New (natural m name.MsgSeqNum) (value m name.SecurityID) (natural m name.Side) (value m name.Price) (value m name.OrderQty) (natural m name.ClOrdID)
 request_as role.ModifyOrderSingleRequest m =
-    request.Modify (count m name.MsgSeqNum) (count m name.OrderID) (count m name.ClOrdID) (value m name.Price) (value m name.OrderQty)
-request_as role.DeleteOrderSingleRequest m = request.Delete (count m name.MsgSeqNum) (count m name.OrderID) (count m name.ClOrdID)
-request_as role.DeleteAllOrderRequest m = request.DeleteAll (count m name.MsgSeqNum) (value m name.SecurityID)
-request_as role.RetransmitMEMessageRequest m = request.Resend (count m name.MsgSeqNum) (count m name.ApplBegMsgID) (count m name.ApplEndMsgID)
+    request.Modify (natural m name.MsgSeqNum) (natural m name.OrderID) (natural m name.ClOrdID) (value m name.Price) (value m name.OrderQty)
+request_as role.DeleteOrderSingleRequest m = request.Delete (natural m name.MsgSeqNum) (natural m name.OrderID) (natural m name.ClOrdID)
+request_as role.DeleteAllOrderRequest m = request.DeleteAll (natural m name.MsgSeqNum) (value m name.SecurityID)
+request_as role.RetransmitMEMessageRequest m = request.Resend (natural m name.MsgSeqNum) (natural m name.ApplBegMsgID) (natural m name.ApplEndMsgID)
 request_as other m = request.Heartbeat
 
 -- the request that a message says: no request's role, or the first missing field, or else the request
@@ -79,7 +79,7 @@ is_numbered other = is_request other
 
 -- the MsgSeqNum that a message of such a role says, if any that does not count as null
 unfoldable pub number_of : Message → Option ℕ
-number_of m = if is_numbered m.role then (if is_missing m name.MsgSeqNum then None else Some (count m name.MsgSeqNum)) else None
+number_of m = if is_numbered m.role then (if is_missing m name.MsgSeqNum then None else Some (natural m name.MsgSeqNum)) else None
 
 -- the same, of the bytes under a template
 unfoldable pub number_in : List Layout → Seen → Option ℕ

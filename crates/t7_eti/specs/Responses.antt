@@ -9,7 +9,7 @@ use Rattle.t7_layout.specs.declared.roles.Role.TheVariants as role
 use Rattle.t7_layout.specs.declared.roles.FieldName.TheVariants as name
 use Rattle.t7_layout.specs.Layouts.{Layout}
 use Rattle.t7_layout.specs.Lookups.{role_of_layout}
-use Rattle.t7_fields.specs.Messages.{Message, first_unset, said, value}
+use Rattle.t7_fields.specs.Messages.{Message, first_unset, said_number, value}
 use Rattle.t7_fields.specs.Spelling.{Seen}
 use Rattle.t7_eti.specs.declared.nulls.FieldFault.{FieldFault}
 use Rattle.t7_eti.specs.declared.nulls.FieldFault.TheVariants as fault
@@ -21,7 +21,7 @@ use Rattle.t7_eti.specs.declared.response.Response.TheVariants as response
 use Rattle.t7_eti.specs.Nulls.{sought}
 use Rattle.t7_eti.specs.Ranges.{first_out}
 use Rattle.t7_eti.specs.Reasons.{reason_of}
-use Rattle.t7_eti.specs.Requests.{count}
+use Rattle.t7_eti.specs.Requests.{natural}
 
 -- the roles of responses
 unfoldable pub is_response : Role → Bool
@@ -44,27 +44,28 @@ side_of z = if int_eq z (pos 1) then Buy else Sell
 
 -- the reason that a Reject says
 abbrev pub reason_said : Message → Reason
-reason_said m = unwrap_or (reason_of (count m name.SessionRejectReason)) UnknownTemplate
+reason_said m = unwrap_or (reason_of (natural m name.SessionRejectReason)) UnknownTemplate
 
 -- the recoverable response of a message of a role, field by field, with its number
 unfoldable pub kept_as : Role → Message → Response
-kept_as role.NewOrderResponse m = response.Kept (count m name.ApplMsgID) (kept.New (count m name.OrderID) (count m name.ClOrdID) (count m name.TrdRegTSTimePriority))
-kept_as role.ModifyOrderResponse m = response.Kept (count m name.ApplMsgID) (kept.Changed (count m name.OrderID) (count m name.ClOrdID) (count m name.TrdRegTSTimePriority))
-kept_as role.DeleteOrderResponse m = response.Kept (count m name.ApplMsgID) (kept.Deleted (count m name.OrderID) (count m name.ClOrdID))
-kept_as role.DeleteAllOrderResponse m = response.Kept (count m name.ApplMsgID) (kept.DeletedAll (value m name.SecurityID) (count m name.NoAffectedOrders))
-kept_as role.DeleteAllOrderBroadcast m = response.Kept (count m name.ApplMsgID) (kept.Cleared (value m name.SecurityID) (count m name.NoAffectedOrders))
+kept_as role.NewOrderResponse m = response.Kept (natural m name.ApplMsgID) (kept.New (natural m name.OrderID) (natural m name.ClOrdID) (natural m name.TrdRegTSTimePriority))
+kept_as role.ModifyOrderResponse m = response.Kept (natural m name.ApplMsgID) (kept.Changed (natural m name.OrderID) (natural m name.ClOrdID) (natural m name.TrdRegTSTimePriority))
+kept_as role.DeleteOrderResponse m = response.Kept (natural m name.ApplMsgID) (kept.Deleted (natural m name.OrderID) (natural m name.ClOrdID))
+kept_as role.DeleteAllOrderResponse m = response.Kept (natural m name.ApplMsgID) (kept.DeletedAll (value m name.SecurityID) (natural m name.NoAffectedOrders))
+kept_as role.DeleteAllOrderBroadcast m = response.Kept (natural m name.ApplMsgID) (kept.Cleared (value m name.SecurityID) (natural m name.NoAffectedOrders))
 kept_as role.OrderExecNotification m =
-    response.Kept (count m name.ApplMsgID)
-    (kept.Exec (count m name.OrderID) (side_of (value m name.Side)) (value m name.LeavesQty) (value m name.CumQty) (count m name.FillQty) (value m name.FillPx))
+    response.Kept (natural m name.ApplMsgID)
+    (kept.Exec (natural m name.OrderID) (side_of (value m name.Side)) (value m name.LeavesQty) (value m name.CumQty) (natural m name.FillQty)
+    (value m name.FillPx))
 kept_as other m = response.Beat
 
 -- the response of a message of a role, field by field
 unfoldable pub response_as : Role → Message → Response
-response_as role.LogonResponse m = response.Logon (count m name.MsgSeqNum) (count m name.HeartBtInt)
-response_as role.LogoutResponse m = response.Logout (count m name.MsgSeqNum)
-response_as role.Reject m = response.Reject (option_map nat_abs (said m name.MsgSeqNum)) (reason_said m)
+response_as role.LogonResponse m = response.Logon (natural m name.MsgSeqNum) (natural m name.HeartBtInt)
+response_as role.LogoutResponse m = response.Logout (natural m name.MsgSeqNum)
+response_as role.Reject m = response.Reject (option_map nat_abs (said_number m name.MsgSeqNum)) (reason_said m)
 response_as role.RetransmitMEMessageResponse m =
-    response.Resent (count m name.MsgSeqNum) (count m name.ApplTotalMessageCount) (count m name.ApplEndMsgID) (count m name.RefApplLastMsgID)
+    response.Resent (natural m name.MsgSeqNum) (natural m name.ApplTotalMessageCount) (natural m name.ApplEndMsgID) (natural m name.RefApplLastMsgID)
 response_as other m = kept_as other m
 
 -- the response that a message says: no response's role, or the first field without a value, or else the first out of its range, or else the response

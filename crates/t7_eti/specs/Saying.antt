@@ -10,9 +10,9 @@ use Rattle.t7_layout.specs.declared.roles.FieldName.{FieldName}
 use Rattle.t7_layout.specs.declared.roles.FieldName.TheVariants as name
 use Rattle.t7_layout.specs.Layouts.{Layout}
 use Rattle.t7_layout.specs.Lookups.{place_in}
-use Rattle.t7_fields.specs.declared.writer.Number.{Number}
-use Rattle.t7_fields.specs.declared.writer.Number.TheVariants as number
-use Rattle.t7_fields.specs.Writing.{IsOrdinary, message_of, unset_number}
+use Rattle.t7_fields.specs.declared.writer.Scalar.{Scalar}
+use Rattle.t7_fields.specs.declared.writer.Scalar.TheVariants as number
+use Rattle.t7_fields.specs.Writing.{IsOrdinary, message_saying, unset_number}
 use Rattle.t7_eti.specs.declared.reason.Reason.{Reason}
 use Rattle.t7_eti.specs.declared.request.Request.{Request}
 use Rattle.t7_eti.specs.declared.request.Request.TheVariants as request
@@ -34,7 +34,7 @@ request_role (request.DeleteAll seq security) = role.DeleteAllOrderRequest
 request_role (request.Resend seq after upto) = role.RetransmitMEMessageRequest
 
 -- what it says
-unfoldable pub request_fields : Request → List (FieldName × Number)
+unfoldable pub request_fields : Request → List (FieldName × Scalar)
 request_fields (request.Logon seq heart session) = (name.MsgSeqNum, number.Word seq) ∷ (name.HeartBtInt, number.Word heart) ∷ (name.PartyIDSessionID, number.Word session) ∷ []
 request_fields (request.Logout seq) = (name.MsgSeqNum, number.Word seq) ∷ []
 request_fields request.Heartbeat = []
@@ -50,7 +50,7 @@ request_fields (request.Resend seq after upto) = (name.MsgSeqNum, number.Word se
 
 -- its bytes
 abbrev pub request_bytes : List Layout → Request → List ℕ
-request_bytes layouts r = message_of layouts (request_role r) (request_fields r)
+request_bytes layouts r = message_saying layouts (request_role r) (request_fields r)
 
 -- the number of a side
 unfoldable pub side_number : Side → ℕ
@@ -67,7 +67,7 @@ kept_role (kept.Cleared security count) = role.DeleteAllOrderBroadcast
 kept_role (kept.Exec order side leaves cum last_qty last_price) = role.OrderExecNotification
 
 -- what it says with its number
-unfoldable pub kept_fields : ℕ → Kept → List (FieldName × Number)
+unfoldable pub kept_fields : ℕ → Kept → List (FieldName × Scalar)
 kept_fields n (kept.New order client stamp) =
     (name.ApplMsgID, number.Raw n) ∷ (name.OrderID, number.Long order) ∷ (name.ClOrdID, number.Long client) ∷ (name.TrdRegTSTimePriority, number.Long stamp) ∷ []
 kept_fields n (kept.Changed order client stamp) =
@@ -89,12 +89,12 @@ response_role (response.Resent seq count last known) = role.RetransmitMEMessageR
 response_role (response.Kept n what) = kept_role what
 
 -- what a Reject says: MsgSeqNum is left unset where there is no number
-unfoldable pub reject_fields : Option ℕ → Reason → List (FieldName × Number)
+unfoldable pub reject_fields : Option ℕ → Reason → List (FieldName × Scalar)
 reject_fields None reason = (name.SessionRejectReason, number.Word (reason_number reason)) ∷ []
 reject_fields (Some seq) reason = (name.MsgSeqNum, number.Word seq) ∷ (name.SessionRejectReason, number.Word (reason_number reason)) ∷ []
 
 -- what a response says
-unfoldable pub response_fields : Response → List (FieldName × Number)
+unfoldable pub response_fields : Response → List (FieldName × Scalar)
 response_fields (response.Logon seq heart) = (name.MsgSeqNum, number.Word seq) ∷ (name.HeartBtInt, number.Word heart) ∷ []
 response_fields (response.Logout seq) = (name.MsgSeqNum, number.Word seq) ∷ []
 response_fields response.Beat = []
@@ -105,7 +105,7 @@ response_fields (response.Kept n what) = kept_fields n what
 
 -- its bytes
 abbrev pub response_bytes : List Layout → Response → List ℕ
-response_bytes layouts r = message_of layouts (response_role r) (response_fields r)
+response_bytes layouts r = message_saying layouts (response_role r) (response_fields r)
 
 -- what a written response is read as: itself, but a Reject without a number has the number 0 where the table gives its MsgSeqNum no null
 unfoldable pub read_again : List Layout → Response → Response
@@ -121,6 +121,6 @@ IsRanged (response.Kept n (kept.Exec order side leaves cum last_qty last_price))
 IsRanged r = Unit {0}
 
 -- each number is not the greatest of its type, or the least of a signed one
-abbrev pub EachOrdinary : List (FieldName × Number) → Type 0
+abbrev pub EachOrdinary : List (FieldName × Scalar) → Type 0
 EachOrdinary [] = Unit {0}
 EachOrdinary (p ∷ ps) = IsOrdinary p.1 × EachOrdinary ps

@@ -1,4 +1,4 @@
-// What always holds of the definitions of requests and responses.
+//! What always holds of the definitions of requests and responses.
 
 ghost use Rattle.std.specs.Prelude.{◌≡◌, List, Ok, Some, Contains, ℕ};
 ghost use Rattle.t7_layout.specs.declared.roles.Role.{Role};

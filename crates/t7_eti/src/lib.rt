@@ -19,6 +19,6 @@ pub use laws::{
 };
 pub use nulls::FieldFault;
 pub use reason::Reason;
-pub use request::{Request, read_number, read_request};
+pub use request::{Request, is_request, read_number, read_request};
 pub use response::{Kept, Response, read_response};
 pub use write::{write_request, write_response};

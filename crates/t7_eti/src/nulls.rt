@@ -1,4 +1,4 @@
-// Which fields a message has to say, and which of them say nothing.
+//! Which fields a message has to say, and which of them say nothing.
 
 ghost use Rattle.std.specs.Prelude.{◌≡◌, None, Contains, IfNone, drop, true};
 ghost use Rattle.t7_layout.specs.Roles.{required};
@@ -20,7 +20,6 @@ pub enum FieldFault {
 }
 
 // How many of the fields that a role requires are not looked for.
-#[tactic(auto, unfolding(crate::specs::Nulls::unsought))]
 fn unsought(role: Role) -> usize
     ensures { result ≡ unsought role }
 {
@@ -44,7 +43,6 @@ pub(crate) fn sought(role: Role) -> &'static [FieldName]
 }
 
 // Whether a field of a request has no value, or a number that counts as none.
-#[tactic(auto, unfolding(crate::specs::Nulls::is_missing, crate::specs::Nulls::counts_as_null, t7_layout::specs::Roles::kind_of), using(crate::proofs::NullFacts::never_counts))]
 fn is_missing(m: &Fields<'_>, name: FieldName) -> bool
     requires { Contains (required m.now.role) name }
     ensures { result ≡ is_missing m.now name }
@@ -77,7 +75,6 @@ fn first_missing_of(m: &Fields<'_>, names: &[FieldName]) -> Option<FieldName>
 }
 
 /// The first field of a request that has no value, or a number that counts as none.
-#[tactic(auto, using(crate::proofs::NullFacts::sought_required, crate::proofs::NullFacts::none_missing))]
 pub(crate) fn first_missing(m: &Fields<'_>) -> Option<FieldName>
     ensures value { result ≡ first_missing m.now (sought m.now.role) }
     ensures whole { IfNone result (HasFields m.now) }
@@ -86,7 +83,6 @@ pub(crate) fn first_missing(m: &Fields<'_>) -> Option<FieldName>
 }
 
 /// The first field of a response that has no value.
-#[tactic(auto, using(crate::proofs::NullFacts::sought_required, crate::proofs::NullFacts::none_unset))]
 pub(crate) fn first_null(m: &Fields<'_>) -> Option<FieldName>
     ensures value { result ≡ first_unset m.now (sought m.now.role) }
     ensures whole { IfNone result (HasFields m.now) }

@@ -1,21 +1,20 @@
-// The numbers of the fields of a message that says each field that it has to say.
+//! The numbers of the fields of a message that says each field that it has to say.
 
 ghost use Rattle.std.specs.Prelude.{◌≡◌, ◌<◌, ◌^◌, None, Contains, pos, nat_abs, option_map, true};
 ghost use Rattle.t7_layout.specs.declared.words.Kind.TheVariants.{Raw, Signed, Unsigned};
 ghost use Rattle.t7_layout.specs.Roles.{family_of, kind_of, required, width_in};
-ghost use Rattle.t7_fields.specs.Messages.{is_among, said, value};
+ghost use Rattle.t7_fields.specs.Messages.{is_among, said_number, value};
 ghost use Rattle.t7_eti.specs.Nulls.{HasFields, sought};
 
 use t7_fields::Fields;
 use t7_layout::FieldName;
 
 /// What an unsigned field of four bytes says, if anything.
-#[tactic(auto, using(crate::proofs::NullFacts::four_bytes))]
 pub(crate) fn said_word(m: &Fields<'_>, name: FieldName) -> Option<u32>
     requires there { Contains (required m.now.role) name }
     requires kind { kind_of name ≡ Unsigned }
     requires width { width_in (family_of m.now.role) name ≡ 4 }
-    ensures { option_map pos result ≡ said m.now name }
+    ensures { option_map pos result ≡ said_number m.now name }
 {
     match m.unsigned(name) {
         Some(number) => Some(number as u32),
@@ -24,7 +23,6 @@ pub(crate) fn said_word(m: &Fields<'_>, name: FieldName) -> Option<u32>
 }
 
 /// The number of a signed field.
-#[tactic(auto, using(crate::proofs::NullFacts::among_required))]
 pub(crate) fn signed(m: &Fields<'_>, name: FieldName) -> i64
     requires there { is_among name (sought m.now.role) ≡ true }
     requires kind { kind_of name ≡ Signed }
@@ -38,7 +36,6 @@ pub(crate) fn signed(m: &Fields<'_>, name: FieldName) -> i64
 }
 
 /// The number of an unsigned field.
-#[tactic(auto, using(crate::proofs::NullFacts::among_required))]
 pub(crate) fn unsigned(m: &Fields<'_>, name: FieldName) -> u64
     requires there { is_among name (sought m.now.role) ≡ true }
     requires kind { kind_of name ≡ Unsigned }
@@ -53,7 +50,6 @@ pub(crate) fn unsigned(m: &Fields<'_>, name: FieldName) -> u64
 }
 
 /// The number of a field of 16 bytes, the highest first.
-#[tactic(auto, using(crate::proofs::NullFacts::among_required, crate::proofs::NullFacts::value_known))]
 pub(crate) fn long(m: &Fields<'_>, name: FieldName) -> u128
     requires there { is_among name (sought m.now.role) ≡ true }
     requires kind { kind_of name ≡ Raw }
@@ -74,7 +70,6 @@ pub(crate) fn double(m: &Fields<'_>, name: FieldName) -> u64
 }
 
 /// The number of an unsigned field of four bytes.
-#[tactic(auto, using(crate::proofs::NullFacts::four_bytes))]
 pub(crate) fn word(m: &Fields<'_>, name: FieldName) -> u32
     requires there { is_among name (sought m.now.role) ≡ true }
     requires kind { kind_of name ≡ Unsigned }
@@ -86,7 +81,6 @@ pub(crate) fn word(m: &Fields<'_>, name: FieldName) -> u32
 }
 
 /// The number of an unsigned field of two bytes.
-#[tactic(auto, using(crate::proofs::NullFacts::two_bytes))]
 pub(crate) fn half(m: &Fields<'_>, name: FieldName) -> u16
     requires there { is_among name (sought m.now.role) ≡ true }
     requires kind { kind_of name ≡ Unsigned }
@@ -98,7 +92,6 @@ pub(crate) fn half(m: &Fields<'_>, name: FieldName) -> u16
 }
 
 /// The number of an unsigned field of one byte.
-#[tactic(auto, using(crate::proofs::NullFacts::one_byte))]
 pub(crate) fn byte(m: &Fields<'_>, name: FieldName) -> u8
     requires there { is_among name (sought m.now.role) ≡ true }
     requires kind { kind_of name ≡ Unsigned }

@@ -1,8 +1,8 @@
-// Which numbers the fields of a response may have.
+//! Which numbers the fields of a response may have.
 
 ghost use Rattle.std.specs.Prelude.{◌≡◌, None, Contains, IfNone};
 ghost use Rattle.t7_layout.specs.Roles.{required};
-ghost use Rattle.t7_fields.specs.Messages.{said};
+ghost use Rattle.t7_fields.specs.Messages.{said_number};
 ghost use Rattle.t7_eti.specs.Nulls.{sought};
 ghost use Rattle.t7_eti.specs.Ranges.{first_out, fits, in_range};
 
@@ -11,7 +11,6 @@ use t7_fields::Fields;
 use t7_layout::{FieldName, Kind};
 
 // Whether a number is one of the type that a response has for a field.
-#[tactic(auto, unfolding(crate::specs::Ranges::in_range))]
 fn in_range(name: FieldName, number: i128) -> bool
     ensures { result ≡ in_range name number }
 {
@@ -28,10 +27,9 @@ fn in_range(name: FieldName, number: i128) -> bool
 }
 
 // Whether what a message says in a field, if anything, is in its range.
-#[tactic(auto, unfolding(crate::specs::Ranges::fits), using(crate::proofs::RangeFacts::raw_fits))]
 fn fits(m: &Fields<'_>, name: FieldName) -> bool
     requires { Contains (required m.now.role) name }
-    ensures { result ≡ fits name (said m.now name) }
+    ensures { result ≡ fits name (said_number m.now name) }
 {
     match name.kind() {
         Kind::Unsigned => match m.unsigned(name) {
@@ -61,7 +59,6 @@ fn first_out_of(m: &Fields<'_>, names: &[FieldName]) -> Option<FieldName>
 }
 
 /// The first field of a response whose number is out of its range.
-#[tactic(auto, using(crate::proofs::NullFacts::sought_required))]
 pub(crate) fn first_out(m: &Fields<'_>) -> Option<FieldName>
     ensures { result ≡ first_out m.now (sought m.now.role) }
 {

@@ -1,4 +1,4 @@
-// Why a request is rejected.
+//! Why a request is rejected.
 
 ghost use Rattle.std.specs.Prelude.{◌≡◌, ◌≤◌};
 ghost use Rattle.t7_eti.specs.Reasons.{reason_number, reason_of};
@@ -65,7 +65,6 @@ impl Reason {
     ];
 
     /// Its number in a message, from 1 to 17.
-    #[tactic(auto, unfolding(crate::specs::Reasons::reason_number))]
     pub fn number(self) -> u32
         ensures value { result ≡ reason_number self }
         ensures low { 1 ≤ result }

@@ -1,4 +1,4 @@
-// Requests, and the messages that are read as them.
+//! Requests, and the messages that are read as them.
 
 ghost use Rattle.std.specs.Prelude.{◌≡◌, ◌<◌, None, IfOk, IfSome, pos, nat_abs, true};
 ghost use Rattle.t7_layout.specs.declared.roles.FieldName.TheVariants as name;
@@ -64,9 +64,8 @@ pub enum Request {
     },
 }
 
-// Whether a role is one of a request.
-#[tactic(auto, unfolding(crate::specs::Requests::is_request))]
-fn is_request(role: Role) -> bool
+/// Whether a role is one of a request that a client makes, its heartbeat among them.
+pub fn is_request(role: Role) -> bool
     ensures { result ≡ is_request role }
 {
     match role {
@@ -83,7 +82,6 @@ fn is_request(role: Role) -> bool
 }
 
 // Whether a role is one of a request that has a number.
-#[tactic(auto, unfolding(crate::specs::Requests::is_numbered))]
 fn is_numbered(role: Role) -> bool
     ensures { result ≡ is_numbered role }
 {
@@ -94,7 +92,6 @@ fn is_numbered(role: Role) -> bool
 }
 
 // The number of a request, which is none that counts as null.
-#[tactic(auto, unfolding(t7_layout::specs::Roles::kind_of, t7_layout::specs::Roles::width_in), using(crate::proofs::NullFacts::number_counts))]
 fn sequence_number(m: &Fields<'_>) -> u32
     requires there { is_among name.MsgSeqNum (sought m.now.role) ≡ true }
     requires none { first_missing m.now (sought m.now.role) ≡ None }
@@ -106,7 +103,6 @@ fn sequence_number(m: &Fields<'_>) -> u32
 }
 
 // What the client calls an order, by no number that counts as null.
-#[tactic(auto, unfolding(t7_layout::specs::Roles::kind_of), using(crate::proofs::NullFacts::client_counts))]
 fn client(m: &Fields<'_>) -> u64
     requires there { is_among name.ClOrdID (sought m.now.role) ≡ true }
     requires none { first_missing m.now (sought m.now.role) ≡ None }
@@ -118,7 +114,6 @@ fn client(m: &Fields<'_>) -> u64
 }
 
 // The request of a message of a request's role in which no field is missing.
-#[tactic(auto, unfolding(crate::specs::Requests::request_as, crate::specs::Requests::is_request, crate::specs::Requests::request_number, crate::specs::Requests::request_client, crate::specs::Nulls::sought, crate::specs::Nulls::unsought, t7_fields::specs::Messages::is_among, t7_layout::specs::Roles::name_number, t7_layout::specs::Roles::required, t7_layout::specs::Roles::kind_of, t7_layout::specs::Roles::width_in, t7_layout::specs::Roles::family_of))]
 fn whole_request(m: &Fields<'_>) -> Request
     requires request { is_request m.now.role ≡ true }
     requires none { first_missing m.now (sought m.now.role) ≡ None }
@@ -170,7 +165,6 @@ fn whole_request(m: &Fields<'_>) -> Request
 }
 
 // The request that a message says.
-#[tactic(auto, unfolding(crate::specs::Requests::request_of))]
 fn request_of(m: &Fields<'_>) -> Result<Request, FieldFault>
     ensures value { result ≡ request_of m.now }
     ensures askable { IfOk result IsAskable }
@@ -185,7 +179,6 @@ fn request_of(m: &Fields<'_>) -> Result<Request, FieldFault>
 }
 
 // The MsgSeqNum that a message of a request says, if any.
-#[tactic(auto, unfolding(t7_layout::specs::Roles::kind_of), using(crate::proofs::NullFacts::numbered_required, crate::proofs::NullFacts::number_width))]
 fn number_of(m: &Fields<'_>) -> Option<u32>
     ensures value { result ≡ number_of m.now }
     ensures small { IfSome result (λ n. n < 4_294_967_295) }
@@ -211,7 +204,6 @@ fn number_of(m: &Fields<'_>) -> Option<u32>
 /// requires has no value, with the first such in the order of the manual's layout, BodyLen and TemplateID aside. A
 /// MsgSeqNum of 4,294,967,295 and a ClOrdID that is the greatest number of 64 bits count as no value, whatever null the
 /// table gives these fields. Value is never answered here. No memory is taken.
-#[tactic(auto, unfolding(crate::specs::Requests::request_in))]
 pub fn read_request(table: &Table, view: View<'_>) -> Result<Request, FieldFault>
     requires { IsOwn table.now view.layout }
     ensures value { result ≡ request_in table.now view.entry }
@@ -226,7 +218,6 @@ pub fn read_request(table: &Table, view: View<'_>) -> Result<Request, FieldFault
 /// The MsgSeqNum that the message of a request says, whose template is one of the table's, for a Reject of a message that
 /// is no request. None exactly where the template is not one of a request, or is a Heartbeat's, or the field has no value
 /// or 4,294,967,295, which counts as none. Where `read_request` answers a request, this is its number. No memory is taken.
-#[tactic(auto, unfolding(crate::specs::Requests::number_in))]
 pub fn read_number(table: &Table, view: View<'_>) -> Option<u32>
     requires { IsOwn table.now view.layout }
     ensures value { result ≡ number_in table.now view.entry }

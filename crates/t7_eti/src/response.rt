@@ -1,9 +1,9 @@
-// Responses, and the messages that are read as them.
+//! Responses, and the messages that are read as them.
 
 ghost use Rattle.std.specs.Prelude.{◌≡◌, nat_abs, option_map, true};
 ghost use Rattle.t7_layout.specs.declared.roles.Role.TheVariants as role;
 ghost use Rattle.t7_layout.specs.declared.roles.FieldName.TheVariants as name;
-ghost use Rattle.t7_fields.specs.Messages.{is_among, said, value};
+ghost use Rattle.t7_fields.specs.Messages.{is_among, said_number, value};
 ghost use Rattle.t7_eti.specs.Nulls.{IsOwn, sought};
 ghost use Rattle.t7_eti.specs.Ranges.{IsSound};
 ghost use Rattle.t7_eti.specs.Responses.{is_response, kept_as, reason_said, response_as, response_in, response_of, side_of};
@@ -94,7 +94,6 @@ pub enum Response {
 }
 
 // Whether a role is one of a response.
-#[tactic(auto, unfolding(crate::specs::Responses::is_response))]
 fn is_response(role: Role) -> bool
     ensures { result ≡ is_response role }
 {
@@ -115,7 +114,6 @@ fn is_response(role: Role) -> bool
 }
 
 // The order that a response is about.
-#[tactic(auto, unfolding(t7_layout::specs::Roles::kind_of))]
 fn order(m: &Fields<'_>) -> OrderId
     requires there { is_among name.OrderID (sought m.now.role) ≡ true }
     requires sound { IsSound m.now }
@@ -125,7 +123,6 @@ fn order(m: &Fields<'_>) -> OrderId
 }
 
 // Its time stamp.
-#[tactic(auto, unfolding(t7_layout::specs::Roles::kind_of))]
 fn stamp(m: &Fields<'_>) -> Stamp
     requires there { is_among name.TrdRegTSTimePriority (sought m.now.role) ≡ true }
     requires sound { IsSound m.now }
@@ -138,7 +135,6 @@ fn stamp(m: &Fields<'_>) -> Stamp
 }
 
 // The quantity of a trade.
-#[tactic(auto, unfolding(t7_layout::specs::Roles::kind_of))]
 fn last_qty(m: &Fields<'_>) -> Qty
     requires there { is_among name.FillQty (sought m.now.role) ≡ true }
     requires sound { IsSound m.now }
@@ -151,7 +147,6 @@ fn last_qty(m: &Fields<'_>) -> Qty
 }
 
 // The price of a trade.
-#[tactic(auto, unfolding(t7_layout::specs::Roles::kind_of))]
 fn last_price(m: &Fields<'_>) -> Price
     requires there { is_among name.FillPx (sought m.now.role) ≡ true }
     requires sound { IsSound m.now }
@@ -164,7 +159,6 @@ fn last_price(m: &Fields<'_>) -> Price
 }
 
 // The side of an order.
-#[tactic(auto, unfolding(t7_layout::specs::Roles::kind_of))]
 fn side(m: &Fields<'_>) -> Side
     requires there { is_among name.Side (sought m.now.role) ≡ true }
     requires sound { IsSound m.now }
@@ -178,7 +172,6 @@ fn side(m: &Fields<'_>) -> Side
 }
 
 // The reason of a Reject.
-#[tactic(auto, unfolding(t7_layout::specs::Roles::kind_of))]
 fn reason(m: &Fields<'_>) -> Reason
     requires there { is_among name.SessionRejectReason (sought m.now.role) ≡ true }
     requires sound { IsSound m.now }
@@ -191,16 +184,14 @@ fn reason(m: &Fields<'_>) -> Reason
 }
 
 // The number of the request that a Reject is about, where it had one.
-#[tactic(auto, unfolding(t7_layout::specs::Roles::kind_of), using(crate::proofs::RangeFacts::reject_number, crate::proofs::NullFacts::number_width, crate::proofs::NullFacts::abs_said))]
 fn rejected(m: &Fields<'_>) -> Option<u32>
     requires { m.now.role ≡ role.Reject }
-    ensures { result ≡ option_map nat_abs (said m.now name.MsgSeqNum) }
+    ensures { result ≡ option_map nat_abs (said_number m.now name.MsgSeqNum) }
 {
     said_word(m, FieldName::MsgSeqNum)
 }
 
 // The recoverable response of a message in which each field is sound.
-#[tactic(auto, unfolding(crate::specs::Responses::kept_as, crate::specs::Nulls::sought, crate::specs::Nulls::unsought, t7_fields::specs::Messages::is_among, t7_layout::specs::Roles::name_number, t7_layout::specs::Roles::required, t7_layout::specs::Roles::kind_of, t7_layout::specs::Roles::width_in, t7_layout::specs::Roles::family_of))]
 fn recoverable(m: &Fields<'_>) -> Response
     requires { IsSound m.now }
     ensures { result ≡ kept_as m.now.role m.now }
@@ -245,7 +236,6 @@ fn recoverable(m: &Fields<'_>) -> Response
 }
 
 // The response of a message in which each field is sound.
-#[tactic(auto, unfolding(crate::specs::Responses::response_as, crate::specs::Nulls::sought, crate::specs::Nulls::unsought, t7_fields::specs::Messages::is_among, t7_layout::specs::Roles::name_number, t7_layout::specs::Roles::required, t7_layout::specs::Roles::kind_of, t7_layout::specs::Roles::width_in, t7_layout::specs::Roles::family_of))]
 fn sound_response(m: &Fields<'_>) -> Response
     requires { IsSound m.now }
     ensures { result ≡ response_as m.now.role m.now }
@@ -273,7 +263,6 @@ fn sound_response(m: &Fields<'_>) -> Response
 }
 
 // The response that a message says.
-#[tactic(auto, unfolding(crate::specs::Responses::response_of))]
 fn response_of(m: &Fields<'_>) -> Result<Response, FieldFault>
     ensures { result ≡ response_of m.now }
 {
@@ -296,7 +285,6 @@ fn response_of(m: &Fields<'_>) -> Result<Response, FieldFault>
 /// TemplateID aside; and else Value exactly where a number is out of the range of its type, with the first such: a
 /// SessionRejectReason that is none of 1 to 17, a TrdRegTSTimePriority outside 1..=2^63-1, a FillQty outside 1..=10^15, a
 /// FillPx outside -10^17..=10^17, or a Side that is neither 1 nor 2. No memory is taken.
-#[tactic(auto, unfolding(crate::specs::Responses::response_in))]
 pub fn read_response(table: &Table, view: View<'_>) -> Result<Response, FieldFault>
     requires { IsOwn table.now view.layout }
     ensures { result ≡ response_in table.now view.entry }

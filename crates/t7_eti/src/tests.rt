@@ -1,4 +1,4 @@
-// Messages of the sample table, against bytes that were laid out by hand.
+//! Messages of the sample table, against bytes that were laid out by hand.
 
 ghost use Rattle.std.specs.Prelude.{◌≤◌, length};
 

@@ -1,9 +1,9 @@
-// The messages of requests and responses, written.
+//! The messages of requests and responses, written.
 
 ghost use Rattle.std.specs.Prelude.{◌≡◌, ◌≤◌, ◌++◌, IfSome, Ok, Some, length, drop, take, pos};
 ghost use Rattle.t7_base.specs.Ranges.{IsPrice, IsQuantity};
 ghost use Rattle.t7_layout.specs.Lookups.{find_role};
-ghost use Rattle.t7_fields.specs.Writing.{AreKnown, IsWritten, message_of};
+ghost use Rattle.t7_fields.specs.Writing.{AreKnown, IsWritten, message_saying};
 ghost use Rattle.t7_eti.specs.declared.response.Kept.TheVariants as kept;
 ghost use Rattle.t7_eti.specs.declared.response.Response.TheVariants as response;
 ghost use Rattle.t7_eti.specs.Requests.{IsAskable, request_in};
@@ -13,11 +13,10 @@ ghost use Rattle.t7_eti.specs.Saying.{IsRanged, kept_fields, kept_role, read_aga
 use crate::request::Request;
 use crate::response::{Kept, Response};
 use t7_base::{OrderId, Price, Qty, Side};
-use t7_fields::{Number, write};
+use t7_fields::{Scalar, write};
 use t7_layout::{FieldName, Role, Table};
 
 // The number of a side.
-#[tactic(auto, unfolding(crate::specs::Saying::side_number))]
 fn side_number(side: Side) -> u8
     ensures { result ≡ side_number side }
 {
@@ -28,7 +27,6 @@ fn side_number(side: Side) -> u8
 }
 
 // Writes the message of a request.
-#[tactic(auto, unfolding(crate::specs::Saying::request_role, crate::specs::Saying::request_fields, t7_layout::specs::Roles::family_of, t7_fields::specs::Writing::longest), using(crate::proofs::SayingFacts::request_said))]
 fn say_request(table: &Table, request: &Request, out: &mut [u8]) -> usize
     requires room { 1024 ≤ length out.old }
     requires known { AreKnown table.now (request_role request.now) (request_fields request.now) }
@@ -46,16 +44,16 @@ fn say_request(table: &Table, request: &Request, out: &mut [u8]) -> usize
             table,
             Role::LogonRequest,
             &[
-                (FieldName::MsgSeqNum, Number::Word(seq)),
-                (FieldName::HeartBtInt, Number::Word(heart)),
-                (FieldName::PartyIDSessionID, Number::Word(session)),
+                (FieldName::MsgSeqNum, Scalar::Word(seq)),
+                (FieldName::HeartBtInt, Scalar::Word(heart)),
+                (FieldName::PartyIDSessionID, Scalar::Word(session)),
             ],
             out,
         ),
         Request::Logout { seq } => write(
             table,
             Role::LogoutRequest,
-            &[(FieldName::MsgSeqNum, Number::Word(seq))],
+            &[(FieldName::MsgSeqNum, Scalar::Word(seq))],
             out,
         ),
         Request::Heartbeat => write(table, Role::EtiHeartbeat, &[], out),
@@ -70,12 +68,12 @@ fn say_request(table: &Table, request: &Request, out: &mut [u8]) -> usize
             table,
             Role::NewOrderSingleRequest,
             &[
-                (FieldName::MsgSeqNum, Number::Word(seq)),
-                (FieldName::Side, Number::Byte(side)),
-                (FieldName::SecurityID, Number::Signed(security)),
-                (FieldName::ClOrdID, Number::Long(client)),
-                (FieldName::Price, Number::Signed(price)),
-                (FieldName::OrderQty, Number::Signed(qty)),
+                (FieldName::MsgSeqNum, Scalar::Word(seq)),
+                (FieldName::Side, Scalar::Byte(side)),
+                (FieldName::SecurityID, Scalar::Signed(security)),
+                (FieldName::ClOrdID, Scalar::Long(client)),
+                (FieldName::Price, Scalar::Signed(price)),
+                (FieldName::OrderQty, Scalar::Signed(qty)),
             ],
             out,
         ),
@@ -89,11 +87,11 @@ fn say_request(table: &Table, request: &Request, out: &mut [u8]) -> usize
             table,
             Role::ModifyOrderSingleRequest,
             &[
-                (FieldName::MsgSeqNum, Number::Word(seq)),
-                (FieldName::OrderID, Number::Long(order)),
-                (FieldName::ClOrdID, Number::Long(client)),
-                (FieldName::Price, Number::Signed(price)),
-                (FieldName::OrderQty, Number::Signed(qty)),
+                (FieldName::MsgSeqNum, Scalar::Word(seq)),
+                (FieldName::OrderID, Scalar::Long(order)),
+                (FieldName::ClOrdID, Scalar::Long(client)),
+                (FieldName::Price, Scalar::Signed(price)),
+                (FieldName::OrderQty, Scalar::Signed(qty)),
             ],
             out,
         ),
@@ -101,9 +99,9 @@ fn say_request(table: &Table, request: &Request, out: &mut [u8]) -> usize
             table,
             Role::DeleteOrderSingleRequest,
             &[
-                (FieldName::MsgSeqNum, Number::Word(seq)),
-                (FieldName::OrderID, Number::Long(order)),
-                (FieldName::ClOrdID, Number::Long(client)),
+                (FieldName::MsgSeqNum, Scalar::Word(seq)),
+                (FieldName::OrderID, Scalar::Long(order)),
+                (FieldName::ClOrdID, Scalar::Long(client)),
             ],
             out,
         ),
@@ -111,8 +109,8 @@ fn say_request(table: &Table, request: &Request, out: &mut [u8]) -> usize
             table,
             Role::DeleteAllOrderRequest,
             &[
-                (FieldName::MsgSeqNum, Number::Word(seq)),
-                (FieldName::SecurityID, Number::Signed(security)),
+                (FieldName::MsgSeqNum, Scalar::Word(seq)),
+                (FieldName::SecurityID, Scalar::Signed(security)),
             ],
             out,
         ),
@@ -120,9 +118,9 @@ fn say_request(table: &Table, request: &Request, out: &mut [u8]) -> usize
             table,
             Role::RetransmitMEMessageRequest,
             &[
-                (FieldName::MsgSeqNum, Number::Word(seq)),
-                (FieldName::ApplBegMsgID, Number::Raw(after)),
-                (FieldName::ApplEndMsgID, Number::Raw(upto)),
+                (FieldName::MsgSeqNum, Scalar::Word(seq)),
+                (FieldName::ApplBegMsgID, Scalar::Raw(after)),
+                (FieldName::ApplEndMsgID, Scalar::Raw(upto)),
             ],
             out,
         ),
@@ -130,7 +128,6 @@ fn say_request(table: &Table, request: &Request, out: &mut [u8]) -> usize
 }
 
 // What the message of a trade says.
-#[tactic(auto, unfolding(crate::specs::Saying::kept_fields))]
 fn executed(
     number: u128,
     order: OrderId,
@@ -139,29 +136,28 @@ fn executed(
     cum: i64,
     last_qty: Qty,
     last_price: Price,
-) -> [(FieldName, Number); 7]
+) -> [(FieldName, Scalar); 7]
     ensures fields { result ≡ kept_fields number (kept.Exec order side leaves cum last_qty last_price) }
     ensures qty { IsQuantity (pos last_qty) }
     ensures price { IsPrice last_price }
 {
     [
-        (FieldName::ApplMsgID, Number::Raw(number)),
-        (FieldName::OrderID, Number::Long(order.0)),
-        (FieldName::LeavesQty, Number::Signed(leaves)),
-        (FieldName::CumQty, Number::Signed(cum)),
-        (FieldName::FillQty, Number::Signed(last_qty.get())),
-        (FieldName::FillPx, Number::Signed(last_price.get())),
-        (FieldName::Side, Number::Byte(side_number(side))),
+        (FieldName::ApplMsgID, Scalar::Raw(number)),
+        (FieldName::OrderID, Scalar::Long(order.0)),
+        (FieldName::LeavesQty, Scalar::Signed(leaves)),
+        (FieldName::CumQty, Scalar::Signed(cum)),
+        (FieldName::FillQty, Scalar::Signed(last_qty.get())),
+        (FieldName::FillPx, Scalar::Signed(last_price.get())),
+        (FieldName::Side, Scalar::Byte(side_number(side))),
     ]
 }
 
 // Writes the message of a recoverable response with its number.
-#[tactic(auto, unfolding(crate::specs::Saying::kept_role, crate::specs::Saying::kept_fields, t7_layout::specs::Roles::family_of, t7_fields::specs::Writing::longest), using(crate::proofs::SayingFacts::kept_said))]
 fn say_kept(table: &Table, number: u128, what: &Kept, out: &mut [u8]) -> usize
     requires room { 1024 ≤ length out.old }
     requires known { AreKnown table.now (kept_role what.now) (kept_fields number what.now) }
     ensures length { IfSome (find_role table.now (kept_role what.now)) (λ t. result ≡ t.size) }
-    ensures bytes { out.new ≡ message_of table.now (kept_role what.now) (kept_fields number what.now) ++ drop result out.old }
+    ensures bytes { out.new ≡ message_saying table.now (kept_role what.now) (kept_fields number what.now) ++ drop result out.old }
     ensures written { IsWritten table.now (kept_role what.now) (kept_fields number what.now) (take result out.new) }
     ensures rest { drop result out.new ≡ drop result out.old }
     ensures ranged { IsRanged (response.Kept number what.now) }
@@ -175,10 +171,10 @@ fn say_kept(table: &Table, number: u128, what: &Kept, out: &mut [u8]) -> usize
             table,
             Role::NewOrderResponse,
             &[
-                (FieldName::ApplMsgID, Number::Raw(number)),
-                (FieldName::OrderID, Number::Long(order.0)),
-                (FieldName::ClOrdID, Number::Long(client)),
-                (FieldName::TrdRegTSTimePriority, Number::Long(stamp.get())),
+                (FieldName::ApplMsgID, Scalar::Raw(number)),
+                (FieldName::OrderID, Scalar::Long(order.0)),
+                (FieldName::ClOrdID, Scalar::Long(client)),
+                (FieldName::TrdRegTSTimePriority, Scalar::Long(stamp.get())),
             ],
             out,
         ),
@@ -190,10 +186,10 @@ fn say_kept(table: &Table, number: u128, what: &Kept, out: &mut [u8]) -> usize
             table,
             Role::ModifyOrderResponse,
             &[
-                (FieldName::ApplMsgID, Number::Raw(number)),
-                (FieldName::OrderID, Number::Long(order.0)),
-                (FieldName::ClOrdID, Number::Long(client)),
-                (FieldName::TrdRegTSTimePriority, Number::Long(stamp.get())),
+                (FieldName::ApplMsgID, Scalar::Raw(number)),
+                (FieldName::OrderID, Scalar::Long(order.0)),
+                (FieldName::ClOrdID, Scalar::Long(client)),
+                (FieldName::TrdRegTSTimePriority, Scalar::Long(stamp.get())),
             ],
             out,
         ),
@@ -201,9 +197,9 @@ fn say_kept(table: &Table, number: u128, what: &Kept, out: &mut [u8]) -> usize
             table,
             Role::DeleteOrderResponse,
             &[
-                (FieldName::ApplMsgID, Number::Raw(number)),
-                (FieldName::OrderID, Number::Long(order.0)),
-                (FieldName::ClOrdID, Number::Long(client)),
+                (FieldName::ApplMsgID, Scalar::Raw(number)),
+                (FieldName::OrderID, Scalar::Long(order.0)),
+                (FieldName::ClOrdID, Scalar::Long(client)),
             ],
             out,
         ),
@@ -211,9 +207,9 @@ fn say_kept(table: &Table, number: u128, what: &Kept, out: &mut [u8]) -> usize
             table,
             Role::DeleteAllOrderResponse,
             &[
-                (FieldName::ApplMsgID, Number::Raw(number)),
-                (FieldName::SecurityID, Number::Signed(security.0)),
-                (FieldName::NoAffectedOrders, Number::Half(count)),
+                (FieldName::ApplMsgID, Scalar::Raw(number)),
+                (FieldName::SecurityID, Scalar::Signed(security.0)),
+                (FieldName::NoAffectedOrders, Scalar::Half(count)),
             ],
             out,
         ),
@@ -221,9 +217,9 @@ fn say_kept(table: &Table, number: u128, what: &Kept, out: &mut [u8]) -> usize
             table,
             Role::DeleteAllOrderBroadcast,
             &[
-                (FieldName::ApplMsgID, Number::Raw(number)),
-                (FieldName::SecurityID, Number::Signed(security.0)),
-                (FieldName::NoAffectedOrders, Number::Half(count)),
+                (FieldName::ApplMsgID, Scalar::Raw(number)),
+                (FieldName::SecurityID, Scalar::Signed(security.0)),
+                (FieldName::NoAffectedOrders, Scalar::Half(count)),
             ],
             out,
         ),
@@ -242,7 +238,6 @@ fn say_kept(table: &Table, number: u128, what: &Kept, out: &mut [u8]) -> usize
 }
 
 // Writes the message of a response.
-#[tactic(auto, unfolding(crate::specs::Saying::response_role, crate::specs::Saying::response_fields, crate::specs::Saying::reject_fields, t7_layout::specs::Roles::family_of, t7_fields::specs::Writing::longest), using(crate::proofs::SayingFacts::response_said))]
 fn say_response(table: &Table, response: &Response, out: &mut [u8]) -> usize
     requires room { 1024 ≤ length out.old }
     requires known { AreKnown table.now (response_role response.now) (response_fields response.now) }
@@ -257,15 +252,15 @@ fn say_response(table: &Table, response: &Response, out: &mut [u8]) -> usize
             table,
             Role::LogonResponse,
             &[
-                (FieldName::MsgSeqNum, Number::Word(seq)),
-                (FieldName::HeartBtInt, Number::Word(heart)),
+                (FieldName::MsgSeqNum, Scalar::Word(seq)),
+                (FieldName::HeartBtInt, Scalar::Word(heart)),
             ],
             out,
         ),
         Response::Logout { seq } => write(
             table,
             Role::LogoutResponse,
-            &[(FieldName::MsgSeqNum, Number::Word(seq))],
+            &[(FieldName::MsgSeqNum, Scalar::Word(seq))],
             out,
         ),
         Response::Beat => write(table, Role::HeartbeatNotification, &[], out),
@@ -274,7 +269,7 @@ fn say_response(table: &Table, response: &Response, out: &mut [u8]) -> usize
             Role::Reject,
             &[(
                 FieldName::SessionRejectReason,
-                Number::Word(reason.number()),
+                Scalar::Word(reason.number()),
             )],
             out,
         ),
@@ -285,10 +280,10 @@ fn say_response(table: &Table, response: &Response, out: &mut [u8]) -> usize
             table,
             Role::Reject,
             &[
-                (FieldName::MsgSeqNum, Number::Word(seq)),
+                (FieldName::MsgSeqNum, Scalar::Word(seq)),
                 (
                     FieldName::SessionRejectReason,
-                    Number::Word(reason.number()),
+                    Scalar::Word(reason.number()),
                 ),
             ],
             out,
@@ -302,10 +297,10 @@ fn say_response(table: &Table, response: &Response, out: &mut [u8]) -> usize
             table,
             Role::RetransmitMEMessageResponse,
             &[
-                (FieldName::MsgSeqNum, Number::Word(seq)),
-                (FieldName::ApplTotalMessageCount, Number::Half(count)),
-                (FieldName::ApplEndMsgID, Number::Raw(last)),
-                (FieldName::RefApplLastMsgID, Number::Raw(known)),
+                (FieldName::MsgSeqNum, Scalar::Word(seq)),
+                (FieldName::ApplTotalMessageCount, Scalar::Half(count)),
+                (FieldName::ApplEndMsgID, Scalar::Raw(last)),
+                (FieldName::RefApplLastMsgID, Scalar::Raw(known)),
             ],
             out,
         ),
@@ -320,7 +315,6 @@ fn say_response(table: &Table, response: &Response, out: &mut [u8]) -> usize
 /// not say have no value. `out` has room for the longest message, of 1,024 bytes. No number of the request is the one that
 /// stands for no value in its field, its MsgSeqNum is not 4,294,967,295 and its ClOrdID not the greatest of 64 bits. What
 /// is written is read as the request. No memory is taken.
-#[tactic(auto, using(crate::proofs::AgainFacts::request_in_again))]
 pub fn write_request(table: &Table, request: &Request, out: &mut [u8]) -> usize
     requires room { 1024 ≤ length out.old }
     requires known { AreKnown table.now (request_role request.now) (request_fields request.now) }
@@ -341,7 +335,6 @@ pub fn write_request(table: &Table, request: &Request, out: &mut [u8]) -> usize
 /// response does not say have no value. `out` has room for the longest message, of 1,024 bytes. No number of the response
 /// is the one that stands for no value in its field. What is written is read as the response, but a Reject without a number
 /// is read with the number 0 where the table gives its MsgSeqNum no such number. No memory is taken.
-#[tactic(auto, using(crate::proofs::AgainFacts::response_in_again))]
 pub fn write_response(table: &Table, response: &Response, out: &mut [u8]) -> usize
     requires room { 1024 ≤ length out.old }
     requires known { AreKnown table.now (response_role response.now) (response_fields response.now) }

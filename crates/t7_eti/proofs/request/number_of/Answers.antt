@@ -1,6 +1,9 @@
 use Rattle.std.proofs.Common.{◌≡◌, ◌≢◌, ◌∙◌, Bool, true, false, None, Some, cond, sym, ap, arith}
 use Rattle.t7_eti.specs.Requests.{is_numbered}
 use Rattle.t7_eti.proofs.NullFacts.{number_equal, number_never, number_none, number_other, number_some}
+use Rattle.std.proofs.Common.{rules}
+use Rattle.t7_layout.specs.Roles.{kind_of}
+use Rattle.t7_eti.proofs.NullFacts.{numbered_required, number_width}
 use Rattle.t7_eti.proofs.request.number_of.Goals as goal
 
 pub returns-then-not-is_numbered-clause-value : goal.returns-then-not-is_numbered-clause-value
@@ -22,3 +25,15 @@ returns-then-number-clause-value c =
 
 pub returns-in-None-clause-value : goal.returns-in-None-clause-value
 returns-in-None-clause-value c = sym (number_none c.args.m.now c.said_word.result c.said_word.ensures c.in-None.is)
+
+pub said_word-requires-clause-there : goal.said_word-requires-clause-there
+unfolding kind_of
+said_word-requires-clause-there c = search (rules, numbered_required, number_width)
+
+pub said_word-requires-clause-kind : goal.said_word-requires-clause-kind
+unfolding kind_of
+said_word-requires-clause-kind c = search (rules, numbered_required, number_width)
+
+pub said_word-requires-clause-width : goal.said_word-requires-clause-width
+unfolding kind_of
+said_word-requires-clause-width c = search (rules, numbered_required, number_width)
