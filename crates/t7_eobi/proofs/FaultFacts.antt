@@ -12,7 +12,7 @@ use Rattle.t7_layout.specs.Roles.{family_of}
 use Rattle.t7_fields.specs.Spelling.{Fits, body_length, length_width}
 use Rattle.t7_fields.specs.Messages.{Message, first_unset}
 use Rattle.t7_base.specs.declared.ids.Channel.{Channel}
-use Rattle.t7_eobi.specs.Datagrams.{body_of, is_cut, message_of, messages_from}
+use Rattle.t7_eobi.specs.Datagrams.{body_of, is_cut, front_message, messages_from}
 use Rattle.t7_eobi.specs.Faults.{fault_at, fault_from, fault_here, fields_fault, has_room, is_header, message_fault}
 use Rattle.t7_eobi.specs.Ranges.{IsSound, counted, first_out}
 use Rattle.t7_eobi.specs.declared.faults.PacketWhy.{PacketWhy}
@@ -27,22 +27,13 @@ header_is other h = cc h
 -- ---- a message of a role
 
 -- a message with room is one that fits
-room_fits : (layouts : List Layout) (r : Role) (message : List ℕ) → has_room layouts r message ≡ true → body_of message ≡ length message → family_of r ≡ Eobi → IfSome (find_role layouts r) (λ t. Fits t message)
+pub room_fits : (layouts : List Layout) (r : Role) (message : List ℕ) → has_room layouts r message ≡ true → body_of message ≡ length message → family_of r ≡ Eobi → IfSome (find_role layouts r) (λ t. Fits t message)
 unfolding has_room body_of body_length length_width
 room_fits layouts r message room said family = by (find_role layouts r) refl room
   where
     by : (o : Option Layout) → find_role layouts r ≡ o → option_map_or (λ (t : Layout). nat_le t.size (length message)) o false ≡ true → IfSome o (λ t. Fits t message)
     by None e h = tt
     by (Some t) e h = let f : t.family ≡ Eobi = family_found layouts r t e ∙ family in record { room = grind (arith, nat_tests); said = rw f said }
-
-pub room_clash : (layouts : List Layout) (r : Role) (message : List ℕ) → has_room layouts r message ≡ true → body_of message ≡ length message → family_of r ≡ Eobi
-    → IfSome (find_role layouts r) (λ t. ¬ Fits t message) → ⊥
-unfolding has_room
-room_clash layouts r message room said family = by (find_role layouts r) room (room_fits layouts r message room said family)
-  where
-    by : (o : Option Layout) → option_map_or (λ (t : Layout). nat_le t.size (length message)) o false ≡ true → IfSome o (λ t. Fits t message) → IfSome o (λ t. ¬ Fits t message) → ⊥
-    by None e h n = cc e
-    by (Some t) e h n = n h
 
 is_none_of : {A : Type 0} (o : Option A) → is_some o ≡ false → o ≡ None
 is_none_of None e = refl
@@ -111,7 +102,8 @@ fault_unroll ls c place (b ∷ bs) h low =
     let e : place + 1 + (body_of (b ∷ bs) - 1) ≡ place + body_of (b ∷ bs) = omega arith in
     rw (fault_passes ls c (body_of (b ∷ bs) - 1) (place + 1) bs, e, after_first b bs (body_of (b ∷ bs)) low) refl
 
-pub messages_unroll : (rest : List ℕ) → 0 < length rest → 1 ≤ body_of rest → messages_from 0 rest ≡ message_of rest ∷ messages_from 0 (drop (body_of rest) rest)
+pub messages_unroll : (rest : List ℕ) → 0 < length rest → 1 ≤ body_of rest
+    → messages_from 0 rest ≡ front_message rest ∷ messages_from 0 (drop (body_of rest) rest)
 unfolding messages_from
 messages_unroll [] h low = absurd (omega arith)
 messages_unroll (b ∷ bs) h low = rw (messages_pass (body_of (b ∷ bs) - 1) bs, after_first b bs (body_of (b ∷ bs)) low) refl
@@ -121,13 +113,13 @@ unfolding fault_from fault_here
 cut_stops ls c place [] h e = absurd (omega arith)
 cut_stops ls c place (b ∷ bs) h e = rw e refl
 
-pub fault_stops : (ls : List Layout) (c : Channel) (place : ℕ) (rest : List ℕ) (w : PacketWhy) → 0 < length rest → is_cut rest ≡ false → message_fault ls c (message_of rest) ≡ Some w
+pub fault_stops : (ls : List Layout) (c : Channel) (place : ℕ) (rest : List ℕ) (w : PacketWhy) → 0 < length rest → is_cut rest ≡ false → message_fault ls c (front_message rest) ≡ Some w
     → fault_from ls c place 0 rest ≡ Some (fault_at place w)
 unfolding fault_from fault_here
 fault_stops ls c place [] w h e m = absurd (omega arith)
 fault_stops ls c place (b ∷ bs) w h e m = rw (e, m) refl
 
-pub fault_goes : (ls : List Layout) (c : Channel) (place : ℕ) (rest : List ℕ) → 0 < length rest → is_cut rest ≡ false → message_fault ls c (message_of rest) ≡ None
+pub fault_goes : (ls : List Layout) (c : Channel) (place : ℕ) (rest : List ℕ) → 0 < length rest → is_cut rest ≡ false → message_fault ls c (front_message rest) ≡ None
     → fault_from ls c place 0 rest ≡ fault_from ls c (place + body_of rest) 0 (drop (body_of rest) rest)
 unfolding fault_here
 fault_goes ls c place rest h e m =
@@ -145,7 +137,7 @@ unfolding fault_from fault_here
 fault_moves ls c p q zero [] e = refl
 fault_moves ls c p q (suc k) [] e = refl
 fault_moves ls c p q (suc k) (b ∷ bs) e = fault_moves ls c (p + 1) (q + 1) k bs e
-fault_moves ls c p q zero (b ∷ bs) e = by (is_cut (b ∷ bs)) (message_fault ls c (message_of (b ∷ bs))) e (fault_moves ls c (p + 1) (q + 1) (body_of (b ∷ bs) - 1) bs)
+fault_moves ls c p q zero (b ∷ bs) e = by (is_cut (b ∷ bs)) (message_fault ls c (front_message (b ∷ bs))) e (fault_moves ls c (p + 1) (q + 1) (body_of (b ∷ bs) - 1) bs)
   where
     by : (cut : Bool) (w : Option PacketWhy)
         → option_or (cond cut (Some (fault_at p why.Cut)) (option_map (fault_at p) w)) (fault_from ls c (p + 1) (body_of (b ∷ bs) - 1) bs) ≡ None

@@ -1,5 +1,5 @@
 -- The fault of bytes is the first one in the words of the grammar.
-use Rattle.std.proofs.Common.{◌≡◌, ◌<◌, ◌≤◌, ◌+◌, ◌∙◌, ◌++◌, ℕ, zero, suc, Bool, true, false, not, List, [], ◌∷◌, Option, Some, None, length, take, drop, refl, sym, ap, subst, cond, arith, inl, inr, is_some, nat_lt, length-append, length-drop}
+use Rattle.std.proofs.Common.{◌≡◌, ◌<◌, ◌≤◌, ◌+◌, ◌∙◌, ◌++◌, ℕ, zero, suc, Bool, true, false, not, List, [], ◌∷◌, Option, Some, None, length, drop, refl, sym, ap, subst, cond, arith, inl, inr, is_some, nat_lt, length-append, length-drop}
 use Rattle.std.specs.Prelude.{◌≢◌, Contains, IsSome, pos, ℤ, option_map}
 use Rattle.std.specs.List.{concat}
 use Rattle.std.specs.Option.{option_map_or, option_or}
@@ -15,12 +15,12 @@ use Rattle.t7_base.specs.declared.ids.Channel.{Channel}
 use Rattle.t7_eobi.specs.declared.faults.PacketWhy.{PacketWhy}
 use Rattle.t7_eobi.specs.declared.faults.PacketWhy.TheVariants as why
 use Rattle.t7_eobi.specs.declared.faults.PacketFault.{PacketFault}
-use Rattle.t7_eobi.specs.Datagrams.{as_role, behind, body_of, in_channel, is_cut, message_of, role_of}
+use Rattle.t7_eobi.specs.Datagrams.{as_role, behind, body_of, in_channel, is_cut, front_message, role_of}
 use Rattle.t7_eobi.specs.Faults.{Reading, fault_at, fault_from, fault_of, fields_fault, has_room, header_fault, is_header, message_fault, names_product, role_fault}
 use Rattle.t7_eobi.specs.Grammar.{IsOther}
-use Rattle.t7_eobi.specs.Ranges.{IsSound, counted, first_out}
+use Rattle.t7_eobi.specs.Ranges.{counted, first_out}
 use Rattle.t7_eobi.specs.FirstFault.{AreSoundSoFar, FailsAs, FailsBehind, FailsFirst, FailsHeader, FailsNext, FailsOther, IsFaultBehind, IsFirstFault, LooksAt}
-use Rattle.t7_eobi.proofs.FaultFacts.{cut_stops, fault_ends, fault_goes, fault_stops, faultless_sound, header_is, not_cut, not_false}
+use Rattle.t7_eobi.proofs.FaultFacts.{cut_stops, fault_ends, fault_goes, fault_stops, faultless_sound, header_is, not_cut}
 use Rattle.t7_eobi.proofs.GrammarFacts.{begins, first_whole, halves, header_passes, message_size, more_contained, other_passes, passes_header, passes_other}
 
 -- ---- the fields of a message of a role
@@ -163,7 +163,7 @@ found_here x place bytes w fault is fails =
     subst (Found x place bytes) is
     (record { front = []; rest = bytes; split = refl; each = (λ m there. (let (k, inside, is) = there in absurd (omega arith))); at = (omega arith); fails = fails })
 
-next_fails : (x : Reading) (rest : List ℕ) (w : PacketWhy) → 0 < length rest → is_cut rest ≡ false → FailsOther x (message_of rest) w → FailsNext x rest w
+next_fails : (x : Reading) (rest : List ℕ) (w : PacketWhy) → 0 < length rest → is_cut rest ≡ false → FailsOther x (front_message rest) w → FailsNext x rest w
 next_fails x rest why.Cut some whole (r, is, inside, none) = absurd none
 next_fails x rest other some whole f = (some, whole, f)
 
@@ -172,18 +172,18 @@ append_again [] b c = refl
 append_again (n ∷ a) b c = ap (λ (xs : List ℕ). n ∷ xs) (append_again a b c)
 
 -- behind a message of the channel
-found_behind : (x : Reading) (place : ℕ) (bytes : List ℕ) (fault : PacketFault) → is_cut bytes ≡ false → IsOther x.layouts x.channel (message_of bytes)
+found_behind : (x : Reading) (place : ℕ) (bytes : List ℕ) (fault : PacketFault) → is_cut bytes ≡ false → IsOther x.layouts x.channel (front_message bytes)
     → Found x (place + body_of bytes) (drop (body_of bytes) bytes) fault → Found x place bytes fault
 found_behind x place bytes fault whole other f =
-    let said : body_of (message_of bytes) ≡ length (message_of bytes) = other.whole.said in
-    let size : length (message_of bytes) ≡ body_of bytes = message_size bytes whole in
-    let joined = length-append (message_of bytes) (concat f.front) in
+    let said : body_of (front_message bytes) ≡ length (front_message bytes) = other.whole.said in
+    let size : length (front_message bytes) ≡ body_of bytes = message_size bytes whole in
+    let joined = length-append (front_message bytes) (concat f.front) in
     let at = f.at in
     record {
-      front = message_of bytes ∷ f.front;
+      front = front_message bytes ∷ f.front;
       rest = f.rest;
-      split = append_again (message_of bytes) (concat f.front) f.rest ∙ ap (λ (xs : List ℕ). message_of bytes ++ xs) f.split ∙ halves bytes;
-      each = more_contained (IsOther x.layouts x.channel) (message_of bytes) f.front other f.each;
+      split = append_again (front_message bytes) (concat f.front) f.rest ∙ ap (λ (xs : List ℕ). front_message bytes ++ xs) f.split ∙ halves bytes;
+      each = more_contained (IsOther x.layouts x.channel) (front_message bytes) f.front other f.each;
       at = (omega arith);
       fails = f.fails;
     }
@@ -191,9 +191,9 @@ found_behind x place bytes fault whole other f =
 found_by : (x : Reading) (place : ℕ) (bytes : List ℕ) (fault : PacketFault) → 0 < length bytes → fault_from x.layouts x.channel place 0 bytes ≡ Some fault
     → (is_cut bytes ≡ false → fault_from x.layouts x.channel (place + body_of bytes) 0 (drop (body_of bytes) bytes) ≡ Some fault → Found x (place + body_of bytes) (drop (body_of bytes) bytes) fault)
     → Found x place bytes fault
-found_by x place bytes fault some e more = by (is_cut bytes) refl (message_fault x.layouts x.channel (message_of bytes)) refl
+found_by x place bytes fault some e more = by (is_cut bytes) refl (message_fault x.layouts x.channel (front_message bytes)) refl
   where
-    by : (c : Bool) → is_cut bytes ≡ c → (w : Option PacketWhy) → message_fault x.layouts x.channel (message_of bytes) ≡ w → Found x place bytes fault
+    by : (c : Bool) → is_cut bytes ≡ c → (w : Option PacketWhy) → message_fault x.layouts x.channel (front_message bytes) ≡ w → Found x place bytes fault
     by true c w m =
         let here = cut_stops x.layouts x.channel place bytes some c in
         let is : fault_at place why.Cut ≡ fault = cc (sym here ∙ e) in
@@ -201,10 +201,10 @@ found_by x place bytes fault some e more = by (is_cut bytes) refl (message_fault
     by false c (Some w) m =
         let here = fault_stops x.layouts x.channel place bytes w some c m in
         let is : fault_at place w ≡ fault = cc (sym here ∙ e) in
-        found_here x place bytes w fault is (next_fails x bytes w some c (message_told x (message_of bytes) w m))
+        found_here x place bytes w fault is (next_fails x bytes w some c (message_told x (front_message bytes) w m))
     by false c None m =
         let goes = fault_goes x.layouts x.channel place bytes some c m in
-        found_behind x place bytes fault c (passes_other x.layouts x.channel (message_of bytes) (first_whole bytes c) m) (more c (sym goes ∙ e))
+        found_behind x place bytes fault c (passes_other x.layouts x.channel (front_message bytes) (first_whole bytes c) m) (more c (sym goes ∙ e))
 
 found : (n : ℕ) (x : Reading) (place : ℕ) (bytes : List ℕ) (fault : PacketFault) → length bytes ≤ n → fault_from x.layouts x.channel place 0 bytes ≡ Some fault → Found x place bytes fault
 found n x place [] fault small e = cc (sym (fault_ends x.layouts x.channel place [] refl) ∙ e)
@@ -223,7 +223,7 @@ passes_all x place [] rest each = let e : place + 0 ≡ place = omega arith in r
 passes_all x place (m ∷ ms) rest each =
     let other : IsOther x.layouts x.channel m = each m (0, omega arith, refl) in
     let b = begins m (concat ms ++ rest) other.whole in
-    let pass : message_fault x.layouts x.channel (message_of (m ++ (concat ms ++ rest))) ≡ None = rw b.message (other_passes x.layouts x.channel m other) in
+    let pass : message_fault x.layouts x.channel (front_message (m ++ (concat ms ++ rest))) ≡ None = rw b.message (other_passes x.layouts x.channel m other) in
     let goes = fault_goes x.layouts x.channel place (m ++ (concat ms ++ rest)) b.some b.whole pass in
     let more = passes_all x (place + body_of (m ++ (concat ms ++ rest))) ms rest (λ y (k, inside, is). each y (suc k, omega arith, is)) in
     let l = length-append m (concat ms) in
@@ -235,7 +235,7 @@ passes_all x place (m ∷ ms) rest each =
 
 next_stops : (x : Reading) (place : ℕ) (rest : List ℕ) (w : PacketWhy) → FailsNext x rest w → fault_from x.layouts x.channel place 0 rest ≡ Some (fault_at place w)
 next_stops x place rest why.Cut (some, cut) = cut_stops x.layouts x.channel place rest some cut
-next_stops x place rest other h = fault_stops x.layouts x.channel place rest other h.0 h.1 (fails_message x (message_of rest) other h.2)
+next_stops x place rest other h = fault_stops x.layouts x.channel place rest other h.0 h.1 (fails_message x (front_message rest) other h.2)
 
 -- ---- the law
 
@@ -251,7 +251,7 @@ short_enough n e = grind (arith, nat_tests)
 is_short : (n : ℕ) → n ≤ 1472 → nat_lt 1472 n ≡ false
 is_short n h = grind (arith, nat_tests)
 
-first_fails : (x : Reading) (bytes : List ℕ) (w : PacketWhy) → is_cut bytes ≡ false → FailsHeader x (message_of bytes) w → FailsFirst x bytes w
+first_fails : (x : Reading) (bytes : List ℕ) (w : PacketWhy) → is_cut bytes ≡ false → FailsHeader x (front_message bytes) w → FailsFirst x bytes w
 first_fails x bytes why.Cut whole (is, none) = absurd none
 first_fails x bytes other whole f = (whole, f)
 
@@ -261,28 +261,28 @@ at_front x bytes w fault short is fails =
 
 pub first_fault : (x : Reading) (bytes : List ℕ) (fault : PacketFault) → fault_of x bytes ≡ Some fault → IsFirstFault x bytes fault
 unfolding fault_of
-first_fault x bytes fault e = by (nat_lt 1472 (length bytes)) refl (is_cut bytes) refl (header_fault x.layouts x.segment (message_of bytes)) refl e
+first_fault x bytes fault e = by (nat_lt 1472 (length bytes)) refl (is_cut bytes) refl (header_fault x.layouts x.segment (front_message bytes)) refl e
   where
-    by : (l : Bool) → nat_lt 1472 (length bytes) ≡ l → (c : Bool) → is_cut bytes ≡ c → (h : Option PacketWhy) → header_fault x.layouts x.segment (message_of bytes) ≡ h
+    by : (l : Bool) → nat_lt 1472 (length bytes) ≡ l → (c : Bool) → is_cut bytes ≡ c → (h : Option PacketWhy) → header_fault x.layouts x.segment (front_message bytes) ≡ h
         → cond l (Some (fault_at 1472 why.TooLong)) (cond c (Some (fault_at 0 why.Cut)) (option_or (option_map (fault_at 0) h) (fault_from x.layouts x.channel (body_of bytes) 0 (behind bytes)))) ≡ Some fault
         → IsFirstFault x bytes fault
     by true l c d h i g = inl (too_long (length bytes) l, (let is : fault_at 1472 why.TooLong ≡ fault = cc g in sym is))
     by false l true d h i g = let is : fault_at 0 why.Cut ≡ fault = cc g in inr (at_front x bytes why.Cut fault (short_enough (length bytes) l) is d)
     by false l false d (Some w) i g =
         let is : fault_at 0 w ≡ fault = cc g in
-        inr (at_front x bytes w fault (short_enough (length bytes) l) is (first_fails x bytes w d (header_told x (message_of bytes) w i)))
+        inr (at_front x bytes w fault (short_enough (length bytes) l) is (first_fails x bytes w d (header_told x (front_message bytes) w i)))
     by false l false d None i g =
         let f = found (length (behind bytes)) x (body_of bytes) (behind bytes) fault (omega arith) g in
-        let size : length (message_of bytes) ≡ body_of bytes = message_size bytes d in
-        let joined = length-append (message_of bytes) (concat f.front) in
+        let size : length (front_message bytes) ≡ body_of bytes = message_size bytes d in
+        let joined = length-append (front_message bytes) (concat f.front) in
         let at = f.at in
         inr
         (record {
           short = short_enough (length bytes) l;
-          front = message_of bytes ∷ f.front;
+          front = front_message bytes ∷ f.front;
           rest = f.rest;
-          split = append_again (message_of bytes) (concat f.front) f.rest ∙ ap (λ (xs : List ℕ). message_of bytes ++ xs) f.split ∙ halves bytes;
-          sound = (passes_header x.layouts x.segment (message_of bytes) (first_whole bytes d) i, f.each);
+          split = append_again (front_message bytes) (concat f.front) f.rest ∙ ap (λ (xs : List ℕ). front_message bytes ++ xs) f.split ∙ halves bytes;
+          sound = (passes_header x.layouts x.segment (front_message bytes) (first_whole bytes d) i, f.each);
           place = (omega arith);
           fails = f.fails;
         })
@@ -290,7 +290,7 @@ first_fault x bytes fault e = by (nat_lt 1472 (length bytes)) refl (is_cut bytes
 front_told : (x : Reading) (bytes : List ℕ) (w : PacketWhy) → length bytes ≤ 1472 → FailsFirst x bytes w → fault_of x bytes ≡ Some (fault_at 0 w)
 unfolding fault_of
 front_told x bytes why.Cut short cut = rw (is_short (length bytes) short, cut) refl
-front_told x bytes other short h = rw (is_short (length bytes) short, h.0, fails_header x (message_of bytes) other h.1) refl
+front_told x bytes other short h = rw (is_short (length bytes) short, h.0, fails_header x (front_message bytes) other h.1) refl
 
 behind_told : (x : Reading) (header : List ℕ) (others : List (List ℕ)) (rest : List ℕ) (w : PacketWhy) → length ((header ++ concat others) ++ rest) ≤ 1472 → AreSoundSoFar x (header ∷ others) → FailsNext x rest w
     → fault_of x ((header ++ concat others) ++ rest) ≡ Some (fault_at (length (header ++ concat others)) w)
@@ -298,7 +298,7 @@ unfolding fault_of
 behind_told x header others rest w short (head, each) fails =
     let again = append_again header (concat others) rest in
     let b = begins header (concat others ++ rest) head.whole in
-    let pass : header_fault x.layouts x.segment (message_of (header ++ (concat others ++ rest))) ≡ None = rw b.message (header_passes x.layouts x.segment header head) in
+    let pass : header_fault x.layouts x.segment (front_message (header ++ (concat others ++ rest))) ≡ None = rw b.message (header_passes x.layouts x.segment header head) in
     let l = length-append header (concat others) in
     let at : length header + length (concat others) ≡ length (header ++ concat others) = omega arith in
     rw (is_short (length ((header ++ concat others) ++ rest)) short, again, b.whole, pass, b.behind, b.body)

@@ -16,7 +16,7 @@ use Rattle.t7_base.specs.declared.ids.Channel.TheVariants as channel
 use Rattle.t7_eobi.specs.declared.faults.PacketWhy.TheVariants as why
 use Rattle.t7_eobi.specs.declared.walks.Live.{Live}
 use Rattle.t7_eobi.specs.declared.walks.Snap.{Snap}
-use Rattle.t7_eobi.specs.Datagrams.{as_role, behind, body_of, in_channel, is_cut, live_of, message_of, messages_of, packet_number, role_of, snap_of}
+use Rattle.t7_eobi.specs.Datagrams.{as_role, behind, body_of, in_channel, is_cut, live_of, front_message, messages_of, packet_number, role_of, snap_of}
 use Rattle.t7_eobi.specs.Faults.{Reading, fault_from, fault_of, fields_fault, header_fault, is_header, message_fault, names_product, role_fault}
 use Rattle.t7_eobi.specs.Grammar.{AreMessages, IsDatagram, IsHeader, IsOther, IsWhole}
 use Rattle.t7_eobi.specs.Said.{ReadsLive, ReadsSnap, SayLives, SaySnaps, SaysHeader}
@@ -28,7 +28,7 @@ use Rattle.t7_eobi.proofs.WalkFacts.{faultless, headed, left_behind, room_role, 
 -- what bytes that begin with a whole message begin with
 pub record Begins (m rest : List ℕ) : Type 0 where
   pub body : body_of (m ++ rest) ≡ length m
-  pub message : message_of (m ++ rest) ≡ m
+  pub message : front_message (m ++ rest) ≡ m
   pub behind : drop (body_of (m ++ rest)) (m ++ rest) ≡ rest
   pub whole : is_cut (m ++ rest) ≡ false
   pub some : 0 < length (m ++ rest)
@@ -50,7 +50,7 @@ uncut n body a b d =
     rw (x, y, z) refl
 
 pub begins : (m rest : List ℕ) → IsWhole m → Begins m rest
-unfolding body_of message_of is_cut
+unfolding body_of front_message is_cut
 begins m rest h =
     let l = length-append m rest in
     let b : body_of (m ++ rest) ≡ length m = little_from-append 2 m rest (let long = h.long in omega arith) ∙ h.said in
@@ -119,7 +119,7 @@ joined ls c (m ∷ ms) each =
     let other : IsOther ls c m = each m (0, omega arith, refl) in
     let rest = joined ls c ms (λ x (k, inside, is). each x (suc k, omega arith, is)) in
     let b = begins m (concat ms) other.whole in
-    let pass : message_fault ls c (message_of (m ++ concat ms)) ≡ None = rw b.message (other_passes ls c m other) in
+    let pass : message_fault ls c (front_message (m ++ concat ms)) ≡ None = rw b.message (other_passes ls c m other) in
     let long = other.whole.long in
     record {
       faultless =
@@ -139,23 +139,23 @@ cut_in_two (suc n) (x ∷ xs) = ap (λ (ys : List ℕ). x ∷ ys) (cut_in_two n 
 length_front : (n : ℕ) (xs : List ℕ) → n ≤ length xs → length (take n xs) ≡ n
 length_front n xs h = let e = ap length (cut_in_two n xs) in omega (arith, length-append (take n xs) (drop n xs), length-drop n xs, e)
 
-pub first_whole : (rest : List ℕ) → is_cut rest ≡ false → IsWhole (message_of rest)
-unfolding message_of body_of
+pub first_whole : (rest : List ℕ) → is_cut rest ≡ false → IsWhole (front_message rest)
+unfolding front_message body_of
 first_whole rest e =
     let bounds = not_cut rest e in
-    let l : length (message_of rest) ≡ body_of rest = length_front (body_of rest) rest bounds.1 in
-    let same = little_from-append 2 (message_of rest) (drop (body_of rest) rest) (omega arith) in
+    let l : length (front_message rest) ≡ body_of rest = length_front (body_of rest) rest bounds.1 in
+    let same = little_from-append 2 (front_message rest) (drop (body_of rest) rest) (omega arith) in
     record {
       long = omega arith;
       said = sym same ∙ ap body_of (cut_in_two (body_of rest) rest) ∙ sym l;
     }
 
-pub message_size : (rest : List ℕ) → is_cut rest ≡ false → length (message_of rest) ≡ body_of rest
-unfolding message_of
+pub message_size : (rest : List ℕ) → is_cut rest ≡ false → length (front_message rest) ≡ body_of rest
+unfolding front_message
 message_size rest e = let bounds = not_cut rest e in length_front (body_of rest) rest bounds.1
 
-pub halves : (rest : List ℕ) → message_of rest ++ drop (body_of rest) rest ≡ rest
-unfolding message_of
+pub halves : (rest : List ℕ) → front_message rest ++ drop (body_of rest) rest ≡ rest
+unfolding front_message
 halves rest = cut_in_two (body_of rest) rest
 
 -- bytes are joined of their messages, each of them one of the channel
@@ -186,11 +186,11 @@ cut (suc n) ls c (b ∷ bs) small e =
     let goes : fault_from ls c 0 0 left ≡ None = fault_moves ls c (0 + body_of rest) 0 0 left (sym (fault_goes ls c 0 rest (omega arith) whole pass) ∙ e) in
     let less = length-drop (body_of rest) rest in
     let more = cut n ls c left (omega arith) goes in
-    let first : IsOther ls c (message_of rest) = passes_other ls c (message_of rest) (first_whole rest whole) pass in
+    let first : IsOther ls c (front_message rest) = passes_other ls c (front_message rest) (first_whole rest whole) pass in
     let unroll = messages_unroll rest (omega arith) (omega arith) in
     record {
-      joined = ap concat unroll ∙ ap (λ (xs : List ℕ). message_of rest ++ xs) more.joined ∙ halves rest;
-      each = (let P : List (List ℕ) → Type 0 = λ ms. (m : List ℕ) → Contains ms m → IsOther ls c m in subst P (sym unroll) (more_contained (IsOther ls c) (message_of rest) (messages_of left) first more.each));
+      joined = ap concat unroll ∙ ap (λ (xs : List ℕ). front_message rest ++ xs) more.joined ∙ halves rest;
+      each = (let P : List (List ℕ) → Type 0 = λ ms. (m : List ℕ) → Contains ms m → IsOther ls c m in subst P (sym unroll) (more_contained (IsOther ls c) (front_message rest) (messages_of left) first more.each));
     }
 
 -- ---- the law
@@ -202,17 +202,17 @@ long_not : (n : ℕ) → n ≤ 1472 → nat_lt 1472 n ≡ false
 long_not n h = grind (arith, nat_tests)
 
 pub faultless_datagram : (x : Reading) (bytes : List ℕ) → fault_of x bytes ≡ None → IsDatagram x bytes (messages_of bytes)
-unfolding message_of
+unfolding front_message
 faultless_datagram x bytes e =
     let f = faultless x bytes e in
     let bounds = not_cut bytes f.whole in
     let goes : fault_from x.layouts x.channel 0 0 (behind bytes) ≡ None = fault_moves x.layouts x.channel (body_of bytes) 0 0 (behind bytes) f.behind in
     let rest = cut (length (behind bytes)) x.layouts x.channel (behind bytes) (omega arith) goes in
-    let header = passes_header x.layouts x.segment (message_of bytes) (first_whole bytes f.whole) f.header in
+    let header = passes_header x.layouts x.segment (front_message bytes) (first_whole bytes f.whole) f.header in
     let unroll = messages_unroll bytes (omega arith) (omega arith) in
     record {
       short = not_long (length bytes) f.short;
-      joined = ap concat unroll ∙ ap (λ (xs : List ℕ). message_of bytes ++ xs) rest.joined ∙ cut_in_two (body_of bytes) bytes;
+      joined = ap concat unroll ∙ ap (λ (xs : List ℕ). front_message bytes ++ xs) rest.joined ∙ cut_in_two (body_of bytes) bytes;
       each = (let P : List (List ℕ) → Type 0 = λ ms. AreMessages x ms in subst P (sym unroll) (header, rest.each));
     }
 
@@ -226,7 +226,7 @@ others_behind x c bytes e k m there =
 pub record Known (x : Reading) (bytes header : List ℕ) (others : List (List ℕ)) : Type 0 where
   pub faultless : fault_of x bytes ≡ None
   pub all : messages_of bytes ≡ header ∷ others
-  pub first : message_of bytes ≡ header
+  pub first : front_message bytes ≡ header
   pub rest : messages_of (behind bytes) ≡ others
 
 pub datagram_known : (x : Reading) (header : List ℕ) (others : List (List ℕ)) → IsDatagram x (header ++ concat others) (header ∷ others) → Known x (header ++ concat others) header others
@@ -236,7 +236,8 @@ datagram_known x header others d =
     let j = joined x.layouts x.channel others each in
     let b = begins header (concat others) head.whole in
     let long = head.whole.long in
-    let pass : header_fault x.layouts x.segment (message_of (header ++ concat others)) ≡ None = rw b.message (header_passes x.layouts x.segment header head) in
+    let pass : header_fault x.layouts x.segment (front_message (header ++ concat others)) ≡ None =
+    rw b.message (header_passes x.layouts x.segment header head) in
     let short = long_not (length (header ++ concat others)) d.short in
     record {
       faultless = rw (short, b.whole, pass, b.behind) (fault_moves x.layouts x.channel 0 (body_of (header ++ concat others)) 0 (concat others) j.faultless);

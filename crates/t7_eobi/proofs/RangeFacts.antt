@@ -8,7 +8,7 @@ use Rattle.t7_layout.specs.declared.roles.Role.{Role}
 use Rattle.t7_layout.specs.declared.roles.FieldName.{FieldName}
 use Rattle.t7_layout.specs.declared.roles.FieldName.TheVariants as name
 use Rattle.t7_layout.specs.Roles.{kind_of, required}
-use Rattle.t7_fields.specs.Messages.{Message, first_unset, is_among, said, value}
+use Rattle.t7_fields.specs.Messages.{Message, first_unset, is_among, said_number, value}
 use Rattle.t7_fields.proofs.NameFacts.{among_contains}
 use Rattle.t7_base.specs.Ranges.{IsPrice, IsQuantity, IsStamp}
 use Rattle.t7_eobi.specs.Ranges.{IsSound, counted, first_out, fits, in_range, is_live, range_of}
@@ -79,15 +79,15 @@ find_none {X = X} p (y ∷ ys) x h c = by (p y) refl h c (find_none p ys x)
 
 -- a field that counts in a sound message says a number of its range
 pub record Says (m : Message) (name : FieldName) (z : ℤ) : Type 0 where
-  pub said : said m name ≡ Some z
+  pub said : said_number m name ≡ Some z
   pub value : value m name ≡ z
   pub ranged : in_range (range_of name) z ≡ true
 
 pub sound_says : (m : Message) (name : FieldName) → IsSound m → Contains (counted m.role) name → (z : ℤ) × Says m name z
 unfolding first_unset first_out fits value
-sound_says m name h there = by (said m name) refl (find_none _ _ name h.set there) (find_none _ _ name h.ranged there)
+sound_says m name h there = by (said_number m name) refl (find_none _ _ name h.set there) (find_none _ _ name h.ranged there)
   where
-    by : (o : Option ℤ) → said m name ≡ o → not (is_some o) ≡ false → not (fits name o) ≡ false → (z : ℤ) × Says m name z
+    by : (o : Option ℤ) → said_number m name ≡ o → not (is_some o) ≡ false → not (fits name o) ≡ false → (z : ℤ) × Says m name z
     by None e set ranged = cc set
     by (Some z) e set ranged = (z, record { said = e; value = rw e refl; ranged = yes (in_range (range_of name) z) ranged })
       where
@@ -95,10 +95,11 @@ sound_says m name h there = by (said m name) refl (find_none _ _ name h.set ther
         yes true h = refl
         yes false h = cc h
 
-pub never_unset : (m : Message) (name : FieldName) → IsSound m → Contains (counted m.role) name → said m name ≡ None → ⊥
-never_unset m name h there e = let (z, says) = sound_says m name h there in cc (e, says.said)
+-- such a field says something
+pub says_some : (m : Message) (name : FieldName) → IsSound m → Contains (counted m.role) name → is_some (said_number m name) ≡ true
+says_some m name h there = let (z, says) = sound_says m name h there in rw says.said refl
 
-pub value_is : (m : Message) (name : FieldName) (z : ℤ) → said m name ≡ Some z → value m name ≡ z
+pub value_is : (m : Message) (name : FieldName) (z : ℤ) → said_number m name ≡ Some z → value m name ≡ z
 unfolding value
 value_is m name z e = rw e refl
 
@@ -171,9 +172,12 @@ find_goes : {X : Type 0} (p : X → Bool) (xs : List X) (i : ℕ) (d : X) → i 
 find_goes p xs i d h e = ap (find p) (drop-cons xs i d h) ∙ find_passes p (get_or xs i d) (drop (suc i) xs) e ∙ ap (λ (n : ℕ). find p (drop n xs)) (sym (add-one i))
 
 -- a field that says a number of its range is passed over
-pub says_goes : (m : Message) (names : List FieldName) (i : ℕ) (d : FieldName) → i < length names → (is_some (said m (get_or names i d)) && fits (get_or names i d) (said m (get_or names i d))) ≡ true
+pub says_goes : (m : Message) (names : List FieldName) (i : ℕ) (d : FieldName) → i < length names → (is_some (said_number m (get_or names i d)) && fits (get_or names i d) (said_number m (get_or names i d))) ≡ true
     → (first_unset m (drop i names) ≡ first_unset m (drop (i + 1) names)) × (first_out m (drop i names) ≡ first_out m (drop (i + 1) names))
 unfolding first_unset first_out
 says_goes m names i d h e =
-    let (set, fit) = both (is_some (said m (get_or names i d))) (fits (get_or names i d) (said m (get_or names i d))) e in
-    (find_goes (λ name. not (is_some (said m name))) names i d h (ap not set), find_goes (λ name. not (fits name (said m name))) names i d h (ap not fit))
+    let (set, fit) = both (is_some (said_number m (get_or names i d))) (fits (get_or names i d) (said_number m (get_or names i d))) e in (
+      find_goes (λ name. not (is_some (said_number m name))) names i d h (ap not set),
+      find_goes
+          (λ name. not (fits name (said_number m name))) names i d h (ap not fit),
+    )

@@ -18,12 +18,12 @@ use Rattle.t7_layout.specs.Lookups.{IsTable, find_role, find_template, role_of_l
 use Rattle.t7_layout.specs.Roles.{family_of, name_number, kind_of, required, width_in}
 use Rattle.t7_layout.specs.Rows.{kind_text, same_kind}
 use Rattle.t7_layout.proofs.FoundFacts.{role_family, role_id, role_own, role_whole}
-use Rattle.t7_fields.specs.declared.writer.Number.{Number}
-use Rattle.t7_fields.specs.declared.writer.Number.TheVariants as number
+use Rattle.t7_fields.specs.declared.writer.Scalar.{Scalar}
+use Rattle.t7_fields.specs.declared.writer.Scalar.TheVariants as number
 use Rattle.t7_fields.specs.Spelling.{IsHeld, body_length, length_width, template_id}
-use Rattle.t7_fields.specs.Messages.{Message, first_unset, is_among, said, value}
-use Rattle.t7_fields.specs.Writing.{AreSaid, AreSized, IsOrdinary, IsSized, IsWritten, Says, can_say, can_say_each, meaning, message_of, number_kind, number_width}
-use Rattle.t7_fields.proofs.WriteFacts.{message_written, ordinary_known}
+use Rattle.t7_fields.specs.Messages.{Message, first_unset, is_among, said_number, value}
+use Rattle.t7_fields.specs.Writing.{SaysSoFar, longest, role_size, AreSaid, AreSized, IsOrdinary, IsSized, IsWritten, Says, can_say, can_say_each, meaning, message_saying, number_kind, number_width}
+use Rattle.t7_fields.proofs.WriteFacts.{message_written, named_in, ordinary_known, role_room, said_finished, size_is}
 use Rattle.t7_base.specs.Ranges.{IsPrice, IsQuantity, IsStamp}
 use Rattle.t7_base.specs.declared.ids.Channel.{Channel}
 use Rattle.t7_base.specs.declared.ids.Channel.TheVariants as channel
@@ -52,7 +52,7 @@ unfolding side_number
 same_side Buy = refl
 same_side Sell = refl
 
-says_value : (x : Message) (ps : List (FieldName × Number)) (k : ℕ) (p : FieldName × Number) → Says x.layouts x.role x.bytes ps → slice_get ps k ≡ Some p → value x p.0 ≡ meaning p.1
+says_value : (x : Message) (ps : List (FieldName × Scalar)) (k : ℕ) (p : FieldName × Scalar) → Says x.layouts x.role x.bytes ps → slice_get ps k ≡ Some p → value x p.0 ≡ meaning p.1
 says_value x ps k p h e = value_is x p.0 (meaning p.1) (h.each k p e)
 
 pub public_again : (m : Public) (seq : ℕ) (x : Message) → m ≢ public.Other → x.role ≡ role_for m → Says x.layouts x.role x.bytes (public_fields seq m) → public_of x ≡ m
@@ -78,12 +78,12 @@ snap_again (snap.Order side price stamp qty) x h =
 -- ---- numbers that may be written in their fields
 
 -- a number in its field's range, which is of its type and the null of no field
-record IsGood (p : FieldName × Number) : Type 0 where
+record IsGood (p : FieldName × Scalar) : Type 0 where
   ranged : in_range (range_of p.0) (meaning p.1) ≡ true
   ordinary : IsOrdinary p.1
   sized : IsSized p.1
 
-abbrev AreGood : List (FieldName × Number) → Type 0
+abbrev AreGood : List (FieldName × Scalar) → Type 0
 AreGood [] = Unit {0}
 AreGood (p ∷ ps) = IsGood p × AreGood ps
 
@@ -160,23 +160,23 @@ good_segment n h = record { ranged = refl; ordinary = λ e. cc e; sized = omega 
 
 -- ---- a message that says good numbers
 
-good_at : (ps : List (FieldName × Number)) (p : FieldName × Number) → AreGood ps → Contains ps p → IsGood p
+good_at : (ps : List (FieldName × Scalar)) (p : FieldName × Scalar) → AreGood ps → Contains ps p → IsGood p
 good_at [] p g c = let (k, below, is) = c in absurd (omega arith)
-good_at (q ∷ qs) p g (zero, below, is) = let P : FieldName × Number → Type 0 = λ x. IsGood x in subst P is g.0
+good_at (q ∷ qs) p g (zero, below, is) = let P : FieldName × Scalar → Type 0 = λ x. IsGood x in subst P is g.0
 good_at (q ∷ qs) p g (suc k, below, is) = good_at qs p g.1 (k, omega arith, is)
 
 -- the fields of a message that says good numbers are set and in their ranges
-sound_fields : (m : Message) (ps : List (FieldName × Number)) → ((k : ℕ) (p : FieldName × Number) → slice_get ps k ≡ Some p → said m p.0 ≡ Some (meaning p.1)) → AreGood ps
-    → (first_unset m (map (λ (p : FieldName × Number). p.0) ps) ≡ None) × (first_out m (map (λ (p : FieldName × Number). p.0) ps) ≡ None)
+sound_fields : (m : Message) (ps : List (FieldName × Scalar)) → ((k : ℕ) (p : FieldName × Scalar) → slice_get ps k ≡ Some p → said_number m p.0 ≡ Some (meaning p.1)) → AreGood ps
+    → (first_unset m (map (λ (p : FieldName × Scalar). p.0) ps) ≡ None) × (first_out m (map (λ (p : FieldName × Scalar). p.0) ps) ≡ None)
 unfolding first_unset first_out fits
 sound_fields m [] each g = (refl, refl)
 sound_fields m (p ∷ ps) each g =
     let (set, ranged) = sound_fields m ps (λ k q e. each (suc k) q e) g.1 in
-    let s : said m p.0 ≡ Some (meaning p.1) = each 0 p refl in
+    let s : said_number m p.0 ≡ Some (meaning p.1) = each 0 p refl in
     (rw s set, rw (s, g.0.ranged) ranged)
 
 -- bytes that are a message of a role, and say these numbers
-pub record IsOf (layouts : List Layout) (r : Role) (ps : List (FieldName × Number)) (bytes : List ℕ) : Type 0 where
+pub record IsOf (layouts : List Layout) (r : Role) (ps : List (FieldName × Scalar)) (bytes : List ℕ) : Type 0 where
   pub whole : IsWhole bytes
   pub is : role_of layouts bytes ≡ Some r
   pub room : has_room layouts r bytes ≡ true
@@ -184,7 +184,7 @@ pub record IsOf (layouts : List Layout) (r : Role) (ps : List (FieldName × Numb
   pub short : length bytes ≤ 128
   pub size : (t : Layout) → find_role layouts r ≡ Some t → length bytes ≡ t.size
 
-written_of : (layouts : List Layout) (r : Role) (ps : List (FieldName × Number)) (bytes : List ℕ) (t : Layout) → IsTable layouts → family_of r ≡ Eobi → find_role layouts r ≡ Some t
+written_of : (layouts : List Layout) (r : Role) (ps : List (FieldName × Scalar)) (bytes : List ℕ) (t : Layout) → IsTable layouts → family_of r ≡ Eobi → find_role layouts r ≡ Some t
     → IsWritten layouts r ps bytes → IsOf layouts r ps bytes
 unfolding role_of has_room body_of body_length length_width template_id
 written_of layouts r ps bytes t table family found w =
@@ -204,17 +204,17 @@ written_of layouts r ps bytes t table family found w =
     }
 
 -- good numbers can be said
-can_be_said : (layouts : List Layout) (r : Role) (ps : List (FieldName × Number)) → IsTable layouts → can_say_each r ps ≡ true → AreGood ps → AreSaid layouts r ps
+can_be_said : (layouts : List Layout) (r : Role) (ps : List (FieldName × Scalar)) → IsTable layouts → can_say_each r ps ≡ true → AreGood ps → AreSaid layouts r ps
 can_be_said layouts r ps table fit good = record { fit = fit; known = ordinary_known layouts r ps table fit (record { each = λ p c. (good_at ps p good c).ordinary }) }
 
-written_is_of : (layouts : List Layout) (r : Role) (ps : List (FieldName × Number)) → IsTable layouts → family_of r ≡ Eobi → can_say_each r ps ≡ true → AreGood ps → IsOf layouts r ps (message_of layouts r ps)
+written_is_of : (layouts : List Layout) (r : Role) (ps : List (FieldName × Scalar)) → IsTable layouts → family_of r ≡ Eobi → can_say_each r ps ≡ true → AreGood ps → IsOf layouts r ps (message_saying layouts r ps)
 written_is_of layouts r ps table family fit good =
     let sized : AreSized ps = record { each = λ p c. (good_at ps p good c).sized } in
     let w = message_written layouts r ps table (can_be_said layouts r ps table fit good) sized in
     let (t, found, fits) = w.message in
-    written_of layouts r ps (message_of layouts r ps) t table family found w
+    written_of layouts r ps (message_saying layouts r ps) t table family found w
 
-sound_of : (layouts : List Layout) (r : Role) (ps : List (FieldName × Number)) (bytes : List ℕ) → IsOf layouts r ps bytes → AreGood ps → map (λ (p : FieldName × Number). p.0) ps ≡ counted r
+sound_of : (layouts : List Layout) (r : Role) (ps : List (FieldName × Scalar)) (bytes : List ℕ) → IsOf layouts r ps bytes → AreGood ps → map (λ (p : FieldName × Scalar). p.0) ps ≡ counted r
     → IsSound (as_role layouts r bytes)
 sound_of layouts r ps bytes is good names =
     let m : Message = as_role layouts r bytes in
@@ -222,7 +222,7 @@ sound_of layouts r ps bytes is good names =
     record { set = rw names at set; ranged = rw names at ranged }
 
 -- such a message is one behind the header
-other_of_role : (layouts : List Layout) (c : Channel) (r : Role) (ps : List (FieldName × Number)) (bytes : List ℕ) → IsOf layouts r ps bytes → AreGood ps → map (λ (p : FieldName × Number). p.0) ps ≡ counted r
+other_of_role : (layouts : List Layout) (c : Channel) (r : Role) (ps : List (FieldName × Scalar)) (bytes : List ℕ) → IsOf layouts r ps bytes → AreGood ps → map (λ (p : FieldName × Scalar). p.0) ps ≡ counted r
     → IsOther layouts c bytes
 other_of_role layouts c r ps bytes is good names = record {
   whole = is.whole;
@@ -281,7 +281,7 @@ public_fit seq public.Other some = absurd (some refl)
 record IsLiveRole (seq : ℕ) (m : Public) : Type 0 where
   family : family_of (role_for m) ≡ Eobi
   live : is_live (role_for m) ≡ true
-  names : map (λ (p : FieldName × Number). p.0) (public_fields seq m) ≡ counted (role_for m)
+  names : map (λ (p : FieldName × Scalar). p.0) (public_fields seq m) ≡ counted (role_for m)
   number : (slice_get (public_fields seq m) 0) ≡ Some (name.MsgSeqNum, number.Word seq)
 
 live_role : (seq : ℕ) (m : Public) → m ≢ public.Other → IsLiveRole seq m
@@ -320,7 +320,7 @@ public_says layouts seq m table n h =
     let fact = live_role seq m some in
     let good = public_good seq m n h in
     let r : Role = role_for m in
-    let ps : List (FieldName × Number) = public_fields seq m in
+    let ps : List (FieldName × Scalar) = public_fields seq m in
     let b : List ℕ = public_bytes layouts seq m in
     let is = written_is_of layouts r ps table fact.family (public_fit seq m some) good in
     let x : Message = as_role layouts r b in
@@ -337,7 +337,7 @@ public_says layouts seq m table n h =
 pub header_says : (layouts : List Layout) (segment count : ℕ) → IsTable layouts → 1 ≤ segment → segment ≤ 2_147_483_647 → IsSequence count → SaysHeader layouts segment count (header_bytes layouts segment count)
 unfolding can_say_each can_say is_among name_number required family_of width_in kind_of number_kind number_width same_kind kind_text counted is_live range_of meaning
 header_says layouts segment count table some most n =
-    let ps : List (FieldName × Number) = header_fields segment count in
+    let ps : List (FieldName × Scalar) = header_fields segment count in
     let b : List ℕ = header_bytes layouts segment count in
     let good : AreGood ps = (good_seq name.ApplSeqNum count refl n, (good_segment segment most, tt)) in
     let is = written_is_of layouts role.PacketHeader ps table refl refl good in
@@ -353,7 +353,7 @@ header_says layouts segment count table some most n =
 pub beat_says : (layouts : List Layout) (last : ℕ) → IsTable layouts → last ≤ 4_294_967_294 → SaysLive layouts (live.Beat last) (beat_bytes layouts last)
 unfolding live_of live_as in_channel can_say_each can_say is_among name_number required family_of width_in kind_of number_kind number_width same_kind kind_text counted is_live meaning
 beat_says layouts last table h =
-    let ps : List (FieldName × Number) = beat_fields last in
+    let ps : List (FieldName × Scalar) = beat_fields last in
     let b : List ℕ = beat_bytes layouts last in
     let good : AreGood ps = (good_last last h, tt) in
     let is = written_is_of layouts role.EobiHeartbeat ps table refl refl good in
@@ -382,7 +382,7 @@ snap_fit (snap.Order side price stamp qty) = refl
 record IsSnapRole (m : Snap) : Type 0 where
   family : family_of (snap_role m) ≡ Eobi
   inside : in_channel channel.Snap (snap_role m) ≡ true
-  names : map (λ (p : FieldName × Number). p.0) (snap_fields m) ≡ counted (snap_role m)
+  names : map (λ (p : FieldName × Scalar). p.0) (snap_fields m) ≡ counted (snap_role m)
 
 snap_role_is : (m : Snap) → IsSnapRole m
 unfolding family_of snap_role is_live snap_fields counted required in_channel
@@ -395,7 +395,7 @@ unfolding snap_of
 snap_says layouts m table h =
     let fact = snap_role_is m in
     let r : Role = snap_role m in
-    let ps : List (FieldName × Number) = snap_fields m in
+    let ps : List (FieldName × Scalar) = snap_fields m in
     let b : List ℕ = snap_bytes layouts m in
     let good = snap_good m h in
     let is = written_is_of layouts r ps table fact.family (snap_fit m) good in
@@ -437,3 +437,51 @@ pub header_size : (layouts : List Layout) (segment count : ℕ) (t : Layout) →
 unfolding can_say_each can_say is_among name_number required family_of width_in kind_of number_kind number_width same_kind kind_text range_of
 header_size layouts segment count t table most n found =
     (written_is_of layouts role.PacketHeader (header_fields segment count) table refl refl (good_seq name.ApplSeqNum count refl n, (good_segment segment most, tt))).size t found
+
+-- ---- what is said field by field is written
+
+-- there is room for a message of market data where there is for the longest
+pub eobi_room : (layouts : List Layout) (r : Role) (n : ℕ) → IsTable layouts → family_of r ≡ Eobi → 128 ≤ n → role_size layouts r ≤ n
+unfolding longest
+eobi_room layouts r n table family h = role_room layouts r n table (rw family h)
+
+pub record IsDone (layouts : List Layout) (r : Role) (ps : List (FieldName × Scalar)) (size : ℕ) (out new : List ℕ) : Type 0 where
+  pub length_is : size ≡ length (message_saying layouts r ps)
+  pub some : 8 ≤ size
+  pub short : size ≤ 128
+  pub bytes : new ≡ message_saying layouts r ps ++ drop size out
+
+pub done : (layouts : List Layout) (r : Role) (ps : List (FieldName × Scalar)) (size : ℕ) (out new : List ℕ) → IsTable layouts → family_of r ≡ Eobi → AreSaid layouts r ps → size ≡ role_size layouts r
+    → role_size layouts r ≤ length out → length new ≡ length out → SaysSoFar layouts r ps out new → IsDone layouts r ps size out new
+done layouts r ps size out new table family can es room same so =
+    let finished = said_finished layouts r ps size out new table can es so in
+    let (t, named) = named_in layouts r table in
+    let e = es ∙ size_is layouts r t named.found in
+    record {
+      length_is = written_length size (message_saying layouts r ps) out new finished.bytes same (rw es room);
+      some = rw e named.layout.long;
+      short = rw e (table.short r t named.found family);
+      bytes = finished.bytes;
+    }
+
+pub public_done : (layouts : List Layout) (seq : ℕ) (m : Public) (size : ℕ) (out new : List ℕ) → IsTable layouts → IsSequence seq → IsPublic m → size ≡ role_size layouts (role_for m)
+    → role_size layouts (role_for m) ≤ length out → length new ≡ length out → SaysSoFar layouts (role_for m) (public_fields seq m) out new → IsDone layouts (role_for m) (public_fields seq m) size out new
+public_done layouts seq m size out new table n h es room same so =
+    done layouts (role_for m) (public_fields seq m) size out new table (public_family m h) (public_said layouts seq m table n h) es room same so
+
+pub snap_done : (layouts : List Layout) (m : Snap) (size : ℕ) (out new : List ℕ) → IsTable layouts → IsSnap m → size ≡ role_size layouts (snap_role m)
+    → role_size layouts (snap_role m) ≤ length out → length new ≡ length out → SaysSoFar layouts (snap_role m) (snap_fields m) out new → IsDone layouts (snap_role m) (snap_fields m) size out new
+snap_done layouts m size out new table h es room same so =
+    done layouts (snap_role m) (snap_fields m) size out new table (snap_family m) (snap_said layouts m table h) es room same so
+
+pub header_done : (layouts : List Layout) (segment count size : ℕ) (out new : List ℕ) → IsTable layouts → segment ≤ 2_147_483_647 → IsSequence count → size ≡ role_size layouts role.PacketHeader
+    → 128 ≤ length out → length new ≡ length out → SaysSoFar layouts role.PacketHeader (header_fields segment count) out new → IsDone layouts role.PacketHeader (header_fields segment count) size out new
+unfolding family_of
+header_done layouts segment count size out new table most n es room same so =
+    done layouts role.PacketHeader (header_fields segment count) size out new table refl (header_said layouts segment count table most n) es (eobi_room layouts role.PacketHeader (length out) table refl room) same so
+
+pub beat_done : (layouts : List Layout) (last size : ℕ) (out new : List ℕ) → IsTable layouts → last ≤ 4_294_967_294 → size ≡ role_size layouts role.EobiHeartbeat
+    → 128 ≤ length out → length new ≡ length out → SaysSoFar layouts role.EobiHeartbeat (beat_fields last) out new → IsDone layouts role.EobiHeartbeat (beat_fields last) size out new
+unfolding family_of
+beat_done layouts last size out new table h es room same so =
+    done layouts role.EobiHeartbeat (beat_fields last) size out new table refl (beat_said layouts last table h) es (eobi_room layouts role.EobiHeartbeat (length out) table refl room) same so

@@ -8,7 +8,7 @@ use Rattle.t7_layout.specs.Layouts.{Layout}
 use Rattle.t7_base.specs.declared.ids.Channel.{Channel}
 use Rattle.t7_eobi.specs.declared.faults.PacketWhy.{PacketWhy}
 use Rattle.t7_eobi.specs.declared.faults.PacketWhy.TheVariants as why
-use Rattle.t7_eobi.specs.Datagrams.{as_role, behind, body_of, in_channel, is_cut, message_of, messages_from, role_of}
+use Rattle.t7_eobi.specs.Datagrams.{as_role, behind, body_of, in_channel, is_cut, front_message, messages_from, role_of}
 use Rattle.t7_eobi.specs.Faults.{Reading, fault_at, fault_from, fault_of, has_room, header_fault, is_header, message_fault, names_product, role_fault}
 use Rattle.t7_eobi.specs.Ranges.{IsSound}
 use Rattle.t7_eobi.proofs.FaultFacts.{chosen, cut_stops, fault_goes, fault_moves, fault_stops, faultless_sound, header_is, messages_unroll, not_cut, not_false}
@@ -31,10 +31,10 @@ walk_whole ls c place rest e h = by (is_cut rest) refl
     by true cut = cc (e, cut_stops ls c place rest h cut)
     by false cut = refl
 
-pub walk_passes : (ls : List Layout) (c : Channel) (place : ℕ) (rest : List ℕ) → fault_from ls c place 0 rest ≡ None → 0 < length rest → message_fault ls c (message_of rest) ≡ None
-walk_passes ls c place rest e h = by (message_fault ls c (message_of rest)) refl
+pub walk_passes : (ls : List Layout) (c : Channel) (place : ℕ) (rest : List ℕ) → fault_from ls c place 0 rest ≡ None → 0 < length rest → message_fault ls c (front_message rest) ≡ None
+walk_passes ls c place rest e h = by (message_fault ls c (front_message rest)) refl
   where
-    by : (o : Option PacketWhy) → message_fault ls c (message_of rest) ≡ o → o ≡ None
+    by : (o : Option PacketWhy) → message_fault ls c (front_message rest) ≡ o → o ≡ None
     by None m = refl
     by (Some w) m = cc (e, fault_stops ls c place rest w h (walk_whole ls c place rest e h) m)
 
@@ -48,7 +48,7 @@ walk_ends [] h = refl
 walk_ends (b ∷ bs) h = absurd (omega arith)
 
 pub messages_first : (ls : List Layout) (c : Channel) (rest : List ℕ) → fault_from ls c 0 0 rest ≡ None → 0 < length rest
-    → messages_from 0 rest ≡ message_of rest ∷ messages_from 0 (drop (body_of rest) rest)
+    → messages_from 0 rest ≡ front_message rest ∷ messages_from 0 (drop (body_of rest) rest)
 messages_first ls c rest e h = let bounds = not_cut rest (walk_whole ls c 0 rest e h) in messages_unroll rest h (omega arith)
 
 -- ---- a datagram without a fault
@@ -65,7 +65,7 @@ unmapped f (Some x) e = cc e
 pub record Faultless (x : Reading) (bytes : List ℕ) : Type 0 where
   pub short : nat_lt 1472 (length bytes) ≡ false
   pub whole : is_cut bytes ≡ false
-  pub header : header_fault x.layouts x.segment (message_of bytes) ≡ None
+  pub header : header_fault x.layouts x.segment (front_message bytes) ≡ None
   pub behind : fault_from x.layouts x.channel (body_of bytes) 0 (behind bytes) ≡ None
 
 pub faultless : (x : Reading) (bytes : List ℕ) → fault_of x bytes ≡ None → Faultless x bytes
@@ -110,8 +110,8 @@ left_behind x c bytes rest e k r =
     let f = fault_moves x.layouts x.channel (body_of bytes) 0 0 (behind bytes) (faultless x bytes e).behind in
     rw (r, ← k) f
 
-pub not_cut_here : (x : Reading) (bytes : List ℕ) → fault_of x bytes ≡ None → is_cut bytes ≡ true → ⊥
-not_cut_here x bytes e cut = cc (cut, (faultless x bytes e).whole)
+pub whole_here : (x : Reading) (bytes : List ℕ) → fault_of x bytes ≡ None → is_cut bytes ≡ false
+whole_here x bytes e = (faultless x bytes e).whole
 
-pub header_here : (x : Reading) (bytes : List ℕ) → fault_of x bytes ≡ None → Headed x.layouts x.segment (message_of bytes)
-header_here x bytes e = headed x.layouts x.segment (message_of bytes) (faultless x bytes e).header
+pub header_here : (x : Reading) (bytes : List ℕ) → fault_of x bytes ≡ None → Headed x.layouts x.segment (front_message bytes)
+header_here x bytes e = headed x.layouts x.segment (front_message bytes) (faultless x bytes e).header

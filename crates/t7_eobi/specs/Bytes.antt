@@ -5,9 +5,9 @@ use Rattle.t7_layout.specs.declared.roles.Role.TheVariants as role
 use Rattle.t7_layout.specs.declared.roles.FieldName.{FieldName}
 use Rattle.t7_layout.specs.declared.roles.FieldName.TheVariants as name
 use Rattle.t7_layout.specs.Layouts.{Layout}
-use Rattle.t7_fields.specs.declared.writer.Number.{Number}
-use Rattle.t7_fields.specs.declared.writer.Number.TheVariants as number
-use Rattle.t7_fields.specs.Writing.{message_of}
+use Rattle.t7_fields.specs.declared.writer.Scalar.{Scalar}
+use Rattle.t7_fields.specs.declared.writer.Scalar.TheVariants as number
+use Rattle.t7_fields.specs.Writing.{message_saying}
 use Rattle.t7_base.specs.declared.ids.Side.{Side}
 use Rattle.t7_base.specs.declared.ids.Side.TheVariants.{Buy, Sell}
 use Rattle.t7_base.specs.declared.public.Public.{Public}
@@ -85,13 +85,13 @@ side_number Buy = 1
 side_number Sell = 2
 
 -- what an order says
-abbrev pub order_fields : ℕ → Resting → List (FieldName × Number)
+abbrev pub order_fields : ℕ → Resting → List (FieldName × Scalar)
 order_fields seq o =
     (name.MsgSeqNum, number.Word seq) ∷ (name.SecurityID, number.Signed o.security) ∷ (name.TrdRegTSTimePriority, number.Long o.stamp)
     ∷ (name.DisplayQty, number.Signed (pos o.qty)) ∷ (name.Side, number.Byte (side_number o.side)) ∷ (name.Price, number.Signed o.price) ∷ []
 
 -- what an execution of a resting order says
-abbrev pub execution_fields : ℕ → ℤ → Side → ℕ → ℤ → ℕ → ℤ → List (FieldName × Number)
+abbrev pub execution_fields : ℕ → ℤ → Side → ℕ → ℤ → ℕ → ℤ → List (FieldName × Scalar)
 execution_fields seq security side stamp price last_qty last_price =
     (name.MsgSeqNum, number.Word seq) ∷ (name.SecurityID, number.Signed security) ∷ (name.TrdRegTSTimePriority, number.Long stamp)
     ∷ (name.Side, number.Byte (side_number side)) ∷ (name.Price, number.Signed price) ∷ (name.LastQty, number.Signed (pos last_qty)) ∷ (name.LastPx, number.Signed last_price) ∷ []
@@ -109,7 +109,7 @@ role_for (public.Summary security side stamp last_qty last_price) = role.Executi
 role_for public.Other = role.OrderMassDelete
 
 -- what a live message says with its number
-unfoldable pub public_fields : ℕ → Public → List (FieldName × Number)
+unfoldable pub public_fields : ℕ → Public → List (FieldName × Scalar)
 public_fields seq (public.Add o) = order_fields seq o
 public_fields seq (public.Modify security side prev_stamp prev_price prev_qty stamp price qty) =
     (name.MsgSeqNum, number.Word seq) ∷ (name.SecurityID, number.Signed security) ∷ (name.TrdRegTSPrevTimePriority, number.Long prev_stamp)
@@ -134,32 +134,32 @@ snap_role (snap.Instrument security count) = role.InstrumentSummary
 snap_role (snap.Order side price stamp qty) = role.SnapshotOrder
 
 -- what it says
-unfoldable pub snap_fields : Snap → List (FieldName × Number)
+unfoldable pub snap_fields : Snap → List (FieldName × Scalar)
 snap_fields (snap.Product last) = (name.LastMsgSeqNumProcessed, number.Word last) ∷ []
 snap_fields (snap.Instrument security count) = (name.SecurityID, number.Signed security) ∷ (name.TotNoOrders, number.Half count) ∷ []
 snap_fields (snap.Order side price stamp qty) =
     (name.TrdRegTSTimePriority, number.Long stamp) ∷ (name.DisplayQty, number.Signed (pos qty)) ∷ (name.Side, number.Byte (side_number side)) ∷ (name.Price, number.Signed price) ∷ []
 
 -- what a header says
-abbrev pub header_fields : ℕ → ℕ → List (FieldName × Number)
+abbrev pub header_fields : ℕ → ℕ → List (FieldName × Scalar)
 header_fields segment count = (name.ApplSeqNum, number.Word count) ∷ (name.MarketSegmentID, number.SignedWord (pos segment)) ∷ []
 
 -- what a heartbeat says
-abbrev pub beat_fields : ℕ → List (FieldName × Number)
+abbrev pub beat_fields : ℕ → List (FieldName × Scalar)
 beat_fields last = (name.LastMsgSeqNumProcessed, number.Word last) ∷ []
 
 -- the bytes of a header
 abbrev pub header_bytes : List Layout → ℕ → ℕ → List ℕ
-header_bytes layouts segment count = message_of layouts role.PacketHeader (header_fields segment count)
+header_bytes layouts segment count = message_saying layouts role.PacketHeader (header_fields segment count)
 
 -- the bytes of a live message with its number
 abbrev pub public_bytes : List Layout → ℕ → Public → List ℕ
-public_bytes layouts seq message = message_of layouts (role_for message) (public_fields seq message)
+public_bytes layouts seq message = message_saying layouts (role_for message) (public_fields seq message)
 
 -- the bytes of a heartbeat
 abbrev pub beat_bytes : List Layout → ℕ → List ℕ
-beat_bytes layouts last = message_of layouts role.EobiHeartbeat (beat_fields last)
+beat_bytes layouts last = message_saying layouts role.EobiHeartbeat (beat_fields last)
 
 -- the bytes of a message of the snapshot channel
 abbrev pub snap_bytes : List Layout → Snap → List ℕ
-snap_bytes layouts item = message_of layouts (snap_role item) (snap_fields item)
+snap_bytes layouts item = message_saying layouts (snap_role item) (snap_fields item)

@@ -29,14 +29,14 @@ unfoldable pub is_cut : List ℕ → Bool
 is_cut rest = nat_lt (length rest) 8 || (nat_lt (body_of rest) 8 || nat_lt (length rest) (body_of rest))
 
 -- the message that bytes begin with
-unfoldable pub message_of : List ℕ → List ℕ
-message_of rest = take (body_of rest) rest
+unfoldable pub front_message : List ℕ → List ℕ
+front_message rest = take (body_of rest) rest
 
 -- the messages of bytes, where so many bytes still belong to the message before
 unfoldable pub messages_from : ℕ → List ℕ → List (List ℕ)
 messages_from passing [] = []
 messages_from (suc passing) (b ∷ bs) = messages_from passing bs
-messages_from zero (b ∷ bs) = message_of (b ∷ bs) ∷ messages_from (body_of (b ∷ bs) - 1) bs
+messages_from zero (b ∷ bs) = front_message (b ∷ bs) ∷ messages_from (body_of (b ∷ bs) - 1) bs
 
 -- the messages of bytes, one after another
 abbrev pub messages_of : List ℕ → List (List ℕ)
@@ -106,4 +106,4 @@ snaps_of layouts bytes = snaps_left (record { layouts = layouts; rest = behind b
 
 -- ApplSeqNum, the number of a datagram in its channel
 unfoldable pub packet_number : List Layout → List ℕ → ℕ
-packet_number layouts bytes = nat_abs (value (as_role layouts role.PacketHeader (message_of bytes)) name.ApplSeqNum)
+packet_number layouts bytes = nat_abs (value (as_role layouts role.PacketHeader (front_message bytes)) name.ApplSeqNum)

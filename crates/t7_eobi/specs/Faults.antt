@@ -12,7 +12,7 @@ use Rattle.t7_base.specs.declared.ids.Channel.{Channel}
 use Rattle.t7_eobi.specs.declared.faults.PacketWhy.{PacketWhy}
 use Rattle.t7_eobi.specs.declared.faults.PacketWhy.TheVariants as why
 use Rattle.t7_eobi.specs.declared.faults.PacketFault.{PacketFault}
-use Rattle.t7_eobi.specs.Datagrams.{as_role, behind, body_of, in_channel, is_cut, message_of, role_of}
+use Rattle.t7_eobi.specs.Datagrams.{as_role, behind, body_of, in_channel, is_cut, front_message, role_of}
 use Rattle.t7_eobi.specs.Ranges.{counted, first_out}
 
 -- the word for a reason
@@ -77,7 +77,7 @@ fault_at place why = record { why = why; place = place }
 -- the fault of the message at a place, with which these bytes begin
 unfoldable pub fault_here : List Layout → Channel → ℕ → List ℕ → Option PacketFault
 fault_here layouts channel place rest =
-    if is_cut rest then Some (fault_at place why.Cut) else option_map (fault_at place) (message_fault layouts channel (message_of rest))
+    if is_cut rest then Some (fault_at place why.Cut) else option_map (fault_at place) (message_fault layouts channel (front_message rest))
 
 -- the first fault behind the header, where so many bytes still belong to the message before
 unfoldable pub fault_from : List Layout → Channel → ℕ → ℕ → List ℕ → Option PacketFault
@@ -91,7 +91,7 @@ unfoldable pub fault_of : Reading → List ℕ → Option PacketFault
 fault_of x bytes =
     if nat_lt 1472 (length bytes) then Some (fault_at 1472 why.TooLong)
     else if is_cut bytes then Some (fault_at 0 why.Cut)
-    else option_or (option_map (fault_at 0) (header_fault x.layouts x.segment (message_of bytes)))
+    else option_or (option_map (fault_at 0) (header_fault x.layouts x.segment (front_message bytes)))
     (fault_from x.layouts x.channel (body_of bytes) 0 (behind bytes))
 
 -- a datagram that was read

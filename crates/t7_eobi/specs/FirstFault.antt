@@ -11,7 +11,7 @@ use Rattle.t7_base.specs.declared.ids.Channel.{Channel}
 use Rattle.t7_eobi.specs.declared.faults.PacketWhy.{PacketWhy}
 use Rattle.t7_eobi.specs.declared.faults.PacketWhy.TheVariants as why
 use Rattle.t7_eobi.specs.declared.faults.PacketFault.{PacketFault}
-use Rattle.t7_eobi.specs.Datagrams.{as_role, in_channel, is_cut, message_of, role_of}
+use Rattle.t7_eobi.specs.Datagrams.{as_role, in_channel, is_cut, front_message, role_of}
 use Rattle.t7_eobi.specs.Faults.{Reading, fault_at, has_room}
 use Rattle.t7_eobi.specs.Grammar.{AreMessages}
 use Rattle.t7_eobi.specs.Ranges.{IsSound, counted, first_out}
@@ -44,12 +44,12 @@ FailsOther x message why = (role : Role) × (role_of x.layouts message ≡ Some 
 -- at the front of bytes stands no whole message, or one that fails a test
 abbrev pub FailsFirst : Reading → List ℕ → PacketWhy → Type 0
 FailsFirst x rest why.Cut = is_cut rest ≡ true
-FailsFirst x rest other = (is_cut rest ≡ false) × FailsHeader x (message_of rest) other
+FailsFirst x rest other = (is_cut rest ≡ false) × FailsHeader x (front_message rest) other
 
 -- the same of what is left behind messages, where something is
 abbrev pub FailsNext : Reading → List ℕ → PacketWhy → Type 0
 FailsNext x rest why.Cut = (0 < length rest) × (is_cut rest ≡ true)
-FailsNext x rest other = (0 < length rest) × (is_cut rest ≡ false) × FailsOther x (message_of rest) other
+FailsNext x rest other = (0 < length rest) × (is_cut rest ≡ false) × FailsOther x (front_message rest) other
 
 -- what stands behind these messages fails a test
 abbrev pub FailsBehind : Reading → List (List ℕ) → List ℕ → PacketWhy → Type 0

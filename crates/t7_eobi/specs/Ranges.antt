@@ -7,7 +7,7 @@ use Rattle.t7_layout.specs.declared.roles.Role.TheVariants.{OrderAdd, OrderModif
 use Rattle.t7_layout.specs.declared.roles.FieldName.{FieldName}
 use Rattle.t7_layout.specs.declared.roles.FieldName.TheVariants as name
 use Rattle.t7_layout.specs.Roles.{required}
-use Rattle.t7_fields.specs.Messages.{Message, first_unset, said}
+use Rattle.t7_fields.specs.Messages.{Message, first_unset, said_number}
 use Rattle.t7_eobi.specs.declared.ranges.Range.{Range}
 use Rattle.t7_eobi.specs.declared.ranges.Range.TheVariants as range
 
@@ -45,7 +45,7 @@ in_range range.Stamp z = between (pos 1) (pos 9_223_372_036_854_775_807) z
 
 -- what a field says is in its range; a field that says nothing is in no range's way
 unfoldable pub fits : FieldName → Option ℤ → Bool
-fits name said = option_map_or (in_range (range_of name)) said true
+fits name said_number = option_map_or (in_range (range_of name)) said_number true
 
 -- the roles of live messages
 unfoldable pub is_live : Role → Bool
@@ -65,7 +65,7 @@ counted role = drop (if is_live role then 2 else 3) (required role)
 
 -- the first of these fields whose number is out of its range
 unfoldable pub first_out : Message → List FieldName → Option FieldName
-first_out m names = find (λ name. not (fits name (said m name))) names
+first_out m names = find (λ name. not (fits name (said_number m name))) names
 
 -- each field that counts says a number of its range
 pub record IsSound (m : Message) : Type 0 where

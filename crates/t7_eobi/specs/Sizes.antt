@@ -1,16 +1,10 @@
 -- How many bytes a message has when it is written.
 use Rattle.std.specs.Prelude.{ℕ, List}
-use Rattle.std.specs.Option.{option_map_or}
 use Rattle.t7_base.specs.declared.public.Public.{Public}
-use Rattle.t7_layout.specs.declared.roles.Role.{Role}
 use Rattle.t7_layout.specs.Layouts.{Layout}
-use Rattle.t7_layout.specs.Lookups.{find_role}
 use Rattle.t7_eobi.specs.declared.walks.Snap.{Snap}
+pub use Rattle.t7_fields.specs.Writing.{role_size}
 use Rattle.t7_eobi.specs.Bytes.{role_for, snap_role}
-
--- how many bytes a message of a role has: those of the role's template
-abbrev pub role_size : List Layout → Role → ℕ
-role_size layouts role = option_map_or (λ (t : Layout). t.size) (find_role layouts role) 0
 
 -- how many bytes a live message has
 abbrev pub message_size : List Layout → Public → ℕ

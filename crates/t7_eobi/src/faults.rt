@@ -1,4 +1,4 @@
-// What is wrong with bytes that are no datagram of a channel.
+//! What is wrong with bytes that are no datagram of a channel.
 
 ghost use Rattle.std.specs.Prelude.{◌≡◌, ◌≤◌, ◌<◌, ◌+◌, ◌^◌, true, false, Some, None, length};
 ghost use Rattle.std.specs.Option.{option_map_or};
@@ -9,10 +9,11 @@ ghost use Rattle.t7_eobi.specs.Datagrams.{body_of};
 ghost use Rattle.t7_eobi.specs.Faults.{fault_from, fault_of, fields_fault, has_room, header_fault, is_header, message_fault, names_product, role_fault, why_text};
 ghost use Rattle.t7_eobi.specs.Ranges.{IsSound};
 
-use crate::messages::{in_channel, role_of, split};
+use crate::messages::{has_room, read, role_of, split};
 use crate::ranges::{counted, says_all};
 use crate::records::number;
-use t7_base::Channel;
+use crate::roles::{in_channel, is_header};
+use t7_base::{Channel, MOST_DATAGRAM};
 use t7_fields::Fields;
 use t7_layout::{FieldName, Role, Table};
 use thiserror::Error;
@@ -38,7 +39,6 @@ pub enum PacketWhy {
 
 impl PacketWhy {
     /// The word for it: what a report prints of a datagram that is refused.
-    #[tactic(auto, unfolding(crate::specs::Faults::why_text))]
     pub fn text(self) -> &'static str
         ensures { result.now ≡ why_text self }
     {
@@ -63,29 +63,7 @@ pub struct PacketFault {
     pub place: usize,
 }
 
-// Whether a message is no shorter than the template of a role.
-#[tactic(auto, unfolding(crate::specs::Faults::has_room))]
-fn has_room(table: &Table, role: Role, message: &[u8]) -> bool
-    ensures { result ≡ has_room table.now role message.now }
-{
-    table.role(role).len() <= message.len()
-}
-
-/// A message of a role, by the names of its fields.
-pub(crate) fn read<'a>(table: &'a Table, role: Role, message: &'a [u8]) -> Fields<'a>
-    requires room { has_room table.now role message.now ≡ true }
-    requires said { body_of message.now ≡ length message.now }
-    requires family { family_of role ≡ Eobi }
-    ensures { result ≡ record { layouts = table.now; role = role; bytes = message.now } }
-{
-    match Fields::of(table, role, message) {
-        Ok(m) => m,
-        Err(_) => unreachable!(),
-    }
-}
-
 // The first test that the fields of a message fail. Most messages fail none, which one look at each field shows.
-#[tactic(auto, unfolding(crate::specs::Faults::fields_fault), using(crate::proofs::RangeFacts::counted_required))]
 fn fields_fault(m: &Fields<'_>) -> Option<PacketWhy>
     ensures { result ≡ fields_fault m.now }
 {
@@ -99,7 +77,6 @@ fn fields_fault(m: &Fields<'_>) -> Option<PacketWhy>
 }
 
 // Whether a header names a product.
-#[tactic(auto, unfolding(crate::specs::Faults::names_product, crate::specs::Ranges::counted, t7_fields::specs::Messages::is_among, t7_layout::specs::Roles::name_number, crate::specs::Ranges::is_live, t7_layout::specs::Roles::required, t7_layout::specs::Roles::kind_of))]
 fn names_product(m: &Fields<'_>, segment: u32) -> bool
     requires role { m.now.role ≡ role.PacketHeader }
     requires sound { IsSound m.now }
@@ -108,19 +85,7 @@ fn names_product(m: &Fields<'_>, segment: u32) -> bool
     number(m, FieldName::MarketSegmentID) == segment as i64
 }
 
-// Whether a message is of the header's template.
-#[tactic(auto, unfolding(crate::specs::Faults::is_header))]
-fn is_header(role: Option<Role>) -> bool
-    ensures { result ≡ option_map_or is_header role false }
-{
-    match role {
-        Some(Role::PacketHeader) => true,
-        _ => false,
-    }
-}
-
 // The first test that the message at place 0 fails.
-#[tactic(auto, unfolding(crate::specs::Faults::header_fault, t7_layout::specs::Roles::family_of))]
 fn header_fault(table: &Table, segment: u32, message: &[u8]) -> Option<PacketWhy>
     requires said { body_of message.now ≡ length message.now }
     requires long { 8 ≤ length message.now }
@@ -144,7 +109,6 @@ fn header_fault(table: &Table, segment: u32, message: &[u8]) -> Option<PacketWhy
 }
 
 // The first test that a message of a role fails behind the header.
-#[tactic(auto, unfolding(crate::specs::Faults::role_fault))]
 fn role_fault(table: &Table, channel: Channel, role: Role, message: &[u8]) -> Option<PacketWhy>
     requires said { body_of message.now ≡ length message.now }
     requires family { family_of role ≡ Eobi }
@@ -161,7 +125,6 @@ fn role_fault(table: &Table, channel: Channel, role: Role, message: &[u8]) -> Op
 }
 
 // The first test that a message fails behind the header.
-#[tactic(auto, unfolding(crate::specs::Faults::message_fault))]
 fn message_fault(table: &Table, channel: Channel, message: &[u8]) -> Option<PacketWhy>
     requires said { body_of message.now ≡ length message.now }
     requires long { 8 ≤ length message.now }
@@ -174,7 +137,6 @@ fn message_fault(table: &Table, channel: Channel, message: &[u8]) -> Option<Pack
 }
 
 // The first fault behind the header, from a place on.
-#[tactic(auto, using(crate::proofs::FaultFacts::cut_stops, crate::proofs::FaultFacts::fault_stops, crate::proofs::FaultFacts::fault_goes, crate::proofs::FaultFacts::fault_ends))]
 fn fault_from(table: &Table, channel: Channel, start: usize, bytes: &[u8]) -> Option<PacketFault>
     requires { start + length bytes.now < 2 ^ 63 }
     ensures { result ≡ fault_from table.now channel start 0 bytes.now }
@@ -201,7 +163,6 @@ fn fault_from(table: &Table, channel: Channel, start: usize, bytes: &[u8]) -> Op
 }
 
 /// The first fault of bytes that are read as a datagram.
-#[tactic(auto, unfolding(crate::specs::Faults::fault_of))]
 pub(crate) fn fault_of(
     table: &Table,
     segment: u32,
@@ -210,10 +171,10 @@ pub(crate) fn fault_of(
 ) -> Option<PacketFault>
     ensures { result ≡ fault_of (record { layouts = table.now; segment = segment; channel = channel }) bytes.now }
 {
-    if bytes.len() > 1472 {
+    if bytes.len() > MOST_DATAGRAM {
         return Some(PacketFault {
             why: PacketWhy::TooLong,
-            place: 1472,
+            place: MOST_DATAGRAM,
         });
     }
     let (header, rest) = match split(bytes) {

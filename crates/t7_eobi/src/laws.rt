@@ -1,4 +1,4 @@
-// What always holds of datagrams and of what is written.
+//! What always holds of datagrams and of what is written.
 
 ghost use Rattle.std.specs.Prelude.{◌≡◌, ◌≤◌, ◌↔◌, ◌++◌, ◌∷◌, List, ℕ, None, Some, length};
 ghost use Rattle.std.specs.List.{All, concat, filter_map};

@@ -7,6 +7,7 @@ mod messages;
 mod packet;
 mod ranges;
 mod records;
+mod roles;
 mod sizes;
 mod walks;
 mod write;

@@ -1,42 +1,57 @@
-// Whole messages of market data, and their roles.
+//! Whole messages of market data, each of the role that its template has.
 
 ghost use Rattle.std.specs.Prelude.{◌≡◌, ◌≤◌, ◌+◌, IfSome, IfNone, true, false, length, drop};
 ghost use Rattle.t7_layout.specs.declared.words.Family.TheVariants.{Eobi};
 ghost use Rattle.t7_layout.specs.Roles.{family_of};
-ghost use Rattle.t7_eobi.specs.Datagrams.{body_of, in_channel, is_cut, message_of, role_of};
+ghost use Rattle.t7_eobi.specs.Datagrams.{body_of, front_message, is_cut, role_of};
+ghost use Rattle.t7_eobi.specs.Faults.{has_room};
 
-use crate::ranges::is_live;
 use byteorder::{ByteOrder, LittleEndian};
-use t7_base::Channel;
+use t7_fields::Fields;
 use t7_layout::{Family, Role, Table};
 
 /// The message that bytes begin with, and the bytes behind it. None exactly where they begin with no whole message.
-#[tactic(auto, unfolding(crate::specs::Datagrams::is_cut, crate::specs::Datagrams::body_of, crate::specs::Datagrams::message_of))]
 pub(crate) fn split(rest: &[u8]) -> Option<(&[u8], &[u8])>
     ensures none { IfNone result (is_cut rest.now ≡ true) }
     ensures whole { IfSome result (λ p. is_cut rest.now ≡ false) }
-    ensures message { IfSome result (λ p. p.0.now ≡ message_of rest.now) }
+    ensures message { IfSome result (λ p. p.0.now ≡ front_message rest.now) }
     ensures after { IfSome result (λ p. p.1.now ≡ drop (body_of rest.now) rest.now) }
     ensures said { IfSome result (λ p. body_of p.0.now ≡ length p.0.now) }
     ensures long { IfSome result (λ p. 8 ≤ length p.0.now) }
     ensures length { IfSome result (λ p. length p.0.now ≡ body_of rest.now) }
     ensures sum { IfSome result (λ p. length p.0.now + length p.1.now ≡ length rest.now) }
 {
-    if rest.len() < 8 {
+    if is_cut(rest) {
         return None;
+    }
+    Some(split_whole(rest))
+}
+
+// Whether bytes begin with no whole message.
+fn is_cut(rest: &[u8]) -> bool
+    ensures { result ≡ is_cut rest.now }
+{
+    if rest.len() < 8 {
+        return true;
     }
     let body = LittleEndian::read_u16(rest) as usize;
-    if body < 8 {
-        return None;
-    }
-    if rest.len() < body {
-        return None;
-    }
-    Some(rest.split_at(body))
+    body < 8 || rest.len() < body
+}
+
+/// The message that bytes begin with, and the bytes behind it, where the message is known to be whole.
+pub(crate) fn split_whole(rest: &[u8]) -> (&[u8], &[u8])
+    requires { is_cut rest.now ≡ false }
+    ensures message { result.0.now ≡ front_message rest.now }
+    ensures after { result.1.now ≡ drop (body_of rest.now) rest.now }
+    ensures said { body_of result.0.now ≡ length result.0.now }
+    ensures long { 8 ≤ length result.0.now }
+    ensures length { length result.0.now ≡ body_of rest.now }
+    ensures sum { length result.0.now + length result.1.now ≡ length rest.now }
+{
+    rest.split_at(LittleEndian::read_u16(rest) as usize)
 }
 
 /// The role of a message, by its TemplateID. None exactly where its template, if the table has it, has no role.
-#[tactic(auto, unfolding(crate::specs::Datagrams::role_of, t7_fields::specs::Spelling::template_id, t7_fields::specs::Spelling::length_width), using(crate::proofs::MessageFacts::role_family))]
 pub(crate) fn role_of(table: &Table, message: &[u8]) -> Option<Role>
     requires { 8 ≤ length message.now }
     ensures value { result ≡ role_of table.now message.now }
@@ -49,19 +64,19 @@ pub(crate) fn role_of(table: &Table, message: &[u8]) -> Option<Role>
     }
 }
 
-/// Whether a role is one of a channel behind the header.
-#[tactic(auto, unfolding(crate::specs::Datagrams::in_channel))]
-pub(crate) fn in_channel(channel: Channel, role: Role) -> bool
-    ensures { result ≡ in_channel channel role }
+/// Whether a message is no shorter than the template of a role.
+pub(crate) fn has_room(table: &Table, role: Role, message: &[u8]) -> bool
+    ensures { result ≡ has_room table.now role message.now }
 {
-    match channel {
-        Channel::Live => match role {
-            Role::EobiHeartbeat => true,
-            other => is_live(other),
-        },
-        Channel::Snap => match role {
-            Role::ProductSummary | Role::InstrumentSummary | Role::SnapshotOrder => true,
-            _ => false,
-        },
-    }
+    table.role(role).len() <= message.len()
+}
+
+/// A message of a role, by the names of its fields.
+pub(crate) fn read<'a>(table: &'a Table, role: Role, message: &'a [u8]) -> Fields<'a>
+    requires room { has_room table.now role message.now ≡ true }
+    requires said { body_of message.now ≡ length message.now }
+    requires family { family_of role ≡ Eobi }
+    ensures { result ≡ record { layouts = table.now; role = role; bytes = message.now } }
+{
+    Fields::known(table, role, message)
 }

@@ -1,4 +1,4 @@
-// Datagrams that were read.
+//! Datagrams that were read.
 
 ghost use Rattle.std.specs.Prelude.{◌≡◌, ◌↔◌, List, ℕ, None, Some, IfOk, IfErr, IsOk, nat_abs};
 ghost use Rattle.t7_base.specs.declared.ids.Channel.TheVariants as channels;
@@ -7,8 +7,8 @@ ghost use Rattle.t7_eobi.specs.Bytes.{IsSequence};
 ghost use Rattle.t7_eobi.specs.Faults.{Datagram, fault_of};
 ghost use Rattle.t7_eobi.specs.Grammar.{IsDatagram};
 
-use crate::faults::{PacketFault, fault_of, read};
-use crate::messages::split;
+use crate::faults::{PacketFault, fault_of};
+use crate::messages::{read, split_whole};
 use crate::records::packet_number;
 use crate::walks::{LiveWalk, SnapWalk};
 use std::marker::Model;
@@ -79,10 +79,7 @@ impl<'a> Packet<'a> {
         ensures value { result ≡ packet_number self.now.reading.layouts self.now.bytes }
         ensures in_range { IsSequence result }
     {
-        let (header, _) = match split(self.bytes) {
-            Some(parts) => parts,
-            None => unreachable!(),
-        };
+        let (header, _) = split_whole(self.bytes);
         packet_number(&read(self.table, Role::PacketHeader, header))
     }
 
@@ -97,10 +94,8 @@ impl<'a> Packet<'a> {
     fn rest(&self) -> &'a [u8]
         ensures { result.now ≡ behind self.now.bytes }
     {
-        match split(self.bytes) {
-            Some((_, rest)) => rest,
-            None => unreachable!(),
-        }
+        let (_, rest) = split_whole(self.bytes);
+        rest
     }
 
     /// Its items, one by one, where it was read for the live channel: messages of live roles and others with their

@@ -1,10 +1,12 @@
-// Which numbers the fields of a message may have.
+//! Which numbers the fields of a message may have.
 
-ghost use Rattle.std.specs.Prelude.{◌≡◌, ◌&&◌, List, Contains, is_none, is_some, length, drop};
+ghost use Rattle.std.specs.Prelude.{◌≡◌, ◌<◌, ◌&&◌, ℕ, ℤ, pos, negsuc, leb, true, List, Contains, is_none, is_some, length, drop};
+ghost use Rattle.std.specs.Int.Signed.{le_z};
 ghost use Rattle.t7_layout.specs.Roles.{kind_of, required};
-ghost use Rattle.t7_fields.specs.Messages.{first_unset, said};
+ghost use Rattle.t7_fields.specs.Messages.{first_unset, said_number};
 ghost use Rattle.t7_eobi.specs.Ranges.{IsSound, counted, first_out, fits, in_range, is_live, range_of};
 
+use crate::roles::is_live;
 use t7_fields::Fields;
 use t7_layout::{FieldName, Kind, Role};
 
@@ -25,7 +27,6 @@ pub(crate) enum Range {
 }
 
 // The range of a field.
-#[tactic(auto, unfolding(crate::specs::Ranges::range_of))]
 fn range_of(name: FieldName) -> Range
     ensures { result ≡ range_of name }
 {
@@ -42,38 +43,51 @@ fn range_of(name: FieldName) -> Range
     }
 }
 
-// Whether a number is of a range.
-#[tactic(auto, unfolding(crate::specs::Ranges::in_range))]
-fn in_range(range: Range, number: i128) -> bool
-    ensures { result ≡ in_range range number }
+// The least and the greatest number of a range that an unsigned field can have.
+fn unsigned_bounds(range: Range) -> (u64, u64)
+    ensures { (n : ℕ) → n < 18_446_744_073_709_551_616 → (leb result.0 n && leb n result.1) ≡ in_range range (pos n) }
 {
     match range {
-        Range::Any => true,
-        Range::Sequence => number >= 1 && number <= 4_294_967_294,
-        Range::Processed => number >= 0 && number <= 4_294_967_294,
-        Range::Side => number >= 1 && number <= 2,
-        Range::Price => { number >= -100_000_000_000_000_000 && number <= 100_000_000_000_000_000 }
-        Range::Quantity => number >= 1 && number <= 1_000_000_000_000_000,
-        Range::Stamp => number >= 1 && number <= 9_223_372_036_854_775_807,
+        Range::Any => (0, 18_446_744_073_709_551_615),
+        Range::Sequence => (1, 4_294_967_294),
+        Range::Processed => (0, 4_294_967_294),
+        Range::Side => (1, 2),
+        Range::Price => (0, 100_000_000_000_000_000),
+        Range::Quantity => (1, 1_000_000_000_000_000),
+        Range::Stamp => (1, 9_223_372_036_854_775_807),
     }
 }
 
-/// Whether a role is that of a live message.
-#[tactic(auto, unfolding(crate::specs::Ranges::is_live))]
-pub(crate) fn is_live(role: Role) -> bool
-    ensures { result ≡ is_live role }
+// The least and the greatest number of a range that a signed field can have.
+fn signed_bounds(range: Range) -> (i64, i64)
+    ensures { (z : ℤ) → le_z (negsuc 9_223_372_036_854_775_807) z ≡ true → le_z z (pos 9_223_372_036_854_775_807) ≡ true
+        → (le_z result.0 z && le_z z result.1) ≡ in_range range z }
 {
-    match role {
-        Role::OrderAdd
-        | Role::OrderModify
-        | Role::OrderModifySamePriority
-        | Role::OrderDelete
-        | Role::OrderMassDelete
-        | Role::PartialOrderExecution
-        | Role::FullOrderExecution
-        | Role::ExecutionSummary => true,
-        _ => false,
+    match range {
+        Range::Any => (-9_223_372_036_854_775_808, 9_223_372_036_854_775_807),
+        Range::Sequence => (1, 4_294_967_294),
+        Range::Processed => (0, 4_294_967_294),
+        Range::Side => (1, 2),
+        Range::Price => (-100_000_000_000_000_000, 100_000_000_000_000_000),
+        Range::Quantity => (1, 1_000_000_000_000_000),
+        Range::Stamp => (1, 9_223_372_036_854_775_807),
     }
+}
+
+// Whether an unsigned field's number is of a range.
+fn is_unsigned_in(range: Range, number: u64) -> bool
+    ensures { result ≡ in_range range (pos number) }
+{
+    let (least, most) = unsigned_bounds(range);
+    number >= least && number <= most
+}
+
+// Whether a signed field's number is of a range.
+fn is_signed_in(range: Range, number: i64) -> bool
+    ensures { result ≡ in_range range number }
+{
+    let (least, most) = signed_bounds(range);
+    number >= least && number <= most
 }
 
 // The names after the first few.
@@ -87,7 +101,6 @@ fn after(names: &[FieldName], count: usize) -> &[FieldName]
 }
 
 /// The fields of a role that count.
-#[tactic(auto, unfolding(crate::specs::Ranges::counted))]
 pub(crate) fn counted(role: Role) -> &'static [FieldName]
     ensures { result.now ≡ counted role }
 {
@@ -95,18 +108,17 @@ pub(crate) fn counted(role: Role) -> &'static [FieldName]
 }
 
 // Whether a message says a number of its range in a field.
-#[tactic(auto, unfolding(crate::specs::Ranges::fits), using(crate::proofs::RangeFacts::raw_any))]
 fn says(m: &Fields<'_>, name: FieldName) -> bool
     requires there { Contains (required m.now.role) name }
-    ensures { result ≡ (is_some (said m.now name) && fits name (said m.now name)) }
+    ensures { result ≡ (is_some (said_number m.now name) && fits name (said_number m.now name)) }
 {
     match name.kind() {
         Kind::Unsigned => match m.unsigned(name) {
-            Some(number) => in_range(range_of(name), number as i128),
+            Some(number) => is_unsigned_in(range_of(name), number),
             None => false,
         },
         Kind::Signed => match m.signed(name) {
-            Some(number) => in_range(range_of(name), number as i128),
+            Some(number) => is_signed_in(range_of(name), number),
             None => false,
         },
         Kind::Raw => m.is_set(name),

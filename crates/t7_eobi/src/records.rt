@@ -1,4 +1,4 @@
-// What the messages of market data say.
+//! What the messages of market data say.
 
 ghost use Rattle.std.specs.Prelude.{◌≡◌, ◌<◌, ◌^◌, true, pos, nat_abs};
 ghost use Rattle.t7_layout.specs.declared.words.Kind.TheVariants.{Unsigned, Signed};
@@ -19,32 +19,26 @@ use t7_fields::Fields;
 use t7_layout::{FieldName, Role};
 
 // The number of a signed field.
-#[tactic(auto, using(crate::proofs::RangeFacts::counted_required, crate::proofs::RangeFacts::counts))]
+#[inline(always)]
 pub(crate) fn number(m: &Fields<'_>, name: FieldName) -> i64
     requires there { is_among name (counted m.now.role) ≡ true }
     requires kind { kind_of name ≡ Signed }
     requires sound { IsSound m.now }
     ensures { result ≡ value m.now name }
 {
-    match m.signed(name) {
-        Some(number) => number,
-        None => unreachable!(),
-    }
+    m.known_signed(name)
 }
 
 // The number of an unsigned field.
-#[tactic(auto, using(crate::proofs::RangeFacts::counted_required, crate::proofs::RangeFacts::counts))]
-pub(crate) fn count(m: &Fields<'_>, name: FieldName) -> u64
+#[inline(always)]
+fn natural(m: &Fields<'_>, name: FieldName) -> u64
     requires there { is_among name (counted m.now.role) ≡ true }
     requires kind { kind_of name ≡ Unsigned }
     requires sound { IsSound m.now }
     ensures value { pos result ≡ value m.now name }
     ensures small { result < 256 ^ width_in (family_of m.now.role) name }
 {
-    match m.unsigned(name) {
-        Some(number) => number,
-        None => unreachable!(),
-    }
+    m.known_unsigned(name)
 }
 
 // The number of a message.
@@ -56,7 +50,7 @@ pub(crate) fn sequence_number(m: &Fields<'_>, name: FieldName) -> u32
     ensures value { result ≡ nat_abs (value m.now name) }
     ensures in_range { IsSequence result }
 {
-    count(m, name) as u32
+    natural(m, name) as u32
 }
 
 // The number of the last message.
@@ -67,7 +61,7 @@ pub(crate) fn last_number(m: &Fields<'_>, name: FieldName) -> u32
     requires sound { IsSound m.now }
     ensures { result ≡ nat_abs (value m.now name) }
 {
-    count(m, name) as u32
+    natural(m, name) as u32
 }
 
 // A count of two bytes.
@@ -78,9 +72,10 @@ fn half(m: &Fields<'_>, name: FieldName) -> u16
     requires sound { IsSound m.now }
     ensures { result ≡ nat_abs (value m.now name) }
 {
-    count(m, name) as u16
+    natural(m, name) as u16
 }
 
+#[inline(always)]
 fn price(m: &Fields<'_>, name: FieldName) -> Price
     requires there { is_among name (counted m.now.role) ≡ true }
     requires kind { kind_of name ≡ Signed }
@@ -88,12 +83,10 @@ fn price(m: &Fields<'_>, name: FieldName) -> Price
     requires sound { IsSound m.now }
     ensures { result ≡ value m.now name }
 {
-    match Price::new(number(m, name)) {
-        Some(price) => price,
-        None => unreachable!(),
-    }
+    Price::known(number(m, name))
 }
 
+#[inline(always)]
 fn qty(m: &Fields<'_>, name: FieldName) -> Qty
     requires there { is_among name (counted m.now.role) ≡ true }
     requires kind { kind_of name ≡ Signed }
@@ -101,12 +94,10 @@ fn qty(m: &Fields<'_>, name: FieldName) -> Qty
     requires sound { IsSound m.now }
     ensures { result ≡ nat_abs (value m.now name) }
 {
-    match Qty::new(number(m, name)) {
-        Some(qty) => qty,
-        None => unreachable!(),
-    }
+    Qty::known(number(m, name))
 }
 
+#[inline(always)]
 fn stamp(m: &Fields<'_>, name: FieldName) -> Stamp
     requires there { is_among name (counted m.now.role) ≡ true }
     requires kind { kind_of name ≡ Unsigned }
@@ -114,19 +105,17 @@ fn stamp(m: &Fields<'_>, name: FieldName) -> Stamp
     requires sound { IsSound m.now }
     ensures { result ≡ nat_abs (value m.now name) }
 {
-    match Stamp::new(count(m, name)) {
-        Some(stamp) => stamp,
-        None => unreachable!(),
-    }
+    Stamp::known(natural(m, name))
 }
 
+#[inline(always)]
 fn side(m: &Fields<'_>, name: FieldName) -> Side
     requires there { is_among name (counted m.now.role) ≡ true }
     requires kind { kind_of name ≡ Unsigned }
     requires sound { IsSound m.now }
     ensures { result ≡ side_of (value m.now name) }
 {
-    if count(m, name) == 1 {
+    if natural(m, name) == 1 {
         Side::Buy
     } else {
         Side::Sell
@@ -134,7 +123,7 @@ fn side(m: &Fields<'_>, name: FieldName) -> Side
 }
 
 // The order that a message says.
-#[tactic(auto, unfolding(crate::specs::Records::resting_of, crate::specs::Ranges::counted, t7_fields::specs::Messages::is_among, t7_layout::specs::Roles::name_number, crate::specs::Ranges::range_of, crate::specs::Ranges::is_live, t7_layout::specs::Roles::required, t7_layout::specs::Roles::kind_of))]
+#[inline(always)]
 fn resting(m: &Fields<'_>) -> Resting
     requires security { is_among name.SecurityID (counted m.now.role) ≡ true }
     requires side { is_among name.Side (counted m.now.role) ≡ true }
@@ -154,7 +143,7 @@ fn resting(m: &Fields<'_>) -> Resting
 }
 
 /// The message of a live role.
-#[tactic(auto, unfolding(crate::specs::Records::public_as, crate::specs::Ranges::counted, t7_fields::specs::Messages::is_among, t7_layout::specs::Roles::name_number, crate::specs::Ranges::range_of, crate::specs::Ranges::is_live, t7_layout::specs::Roles::required, t7_layout::specs::Roles::kind_of))]
+#[inline(always)]
 pub(crate) fn public(m: &Fields<'_>) -> Public
     requires sound { IsSound m.now }
     ensures { result ≡ public_of m.now }
@@ -211,7 +200,6 @@ pub(crate) fn public(m: &Fields<'_>) -> Public
 }
 
 /// The item of a snapshot role.
-#[tactic(auto, unfolding(crate::specs::Records::snap_as, crate::specs::Datagrams::in_channel, crate::specs::Ranges::counted, t7_fields::specs::Messages::is_among, t7_layout::specs::Roles::name_number, crate::specs::Ranges::range_of, crate::specs::Ranges::is_live, t7_layout::specs::Roles::required, t7_layout::specs::Roles::kind_of, t7_layout::specs::Roles::width_in))]
 pub(crate) fn snap(m: &Fields<'_>) -> Snap
     requires inside { in_channel channels.Snap m.now.role ≡ true }
     requires sound { IsSound m.now }
@@ -234,7 +222,6 @@ pub(crate) fn snap(m: &Fields<'_>) -> Snap
 }
 
 /// The number of a datagram, in its header.
-#[tactic(auto, unfolding(crate::specs::Ranges::range_of, crate::specs::Ranges::counted, t7_fields::specs::Messages::is_among, t7_layout::specs::Roles::name_number, crate::specs::Ranges::is_live, t7_layout::specs::Roles::required, t7_layout::specs::Roles::kind_of))]
 pub(crate) fn packet_number(m: &Fields<'_>) -> u32
     requires role { m.now.role ≡ role.PacketHeader }
     requires sound { IsSound m.now }

@@ -8,30 +8,10 @@ ghost use Rattle.t7_layout.specs.Roles.{family_of};
 ghost use Rattle.t7_eobi.specs.Bytes.{role_for, snap_role};
 ghost use Rattle.t7_eobi.specs.Sizes.{message_size, snap_size};
 
+use crate::roles::{role_for, snap_role};
 use crate::walks::Snap;
-use crate::write::snap_role;
 use t7_base::Public;
 use t7_layout::{Role, Table};
-
-// The role of a live message.
-#[tactic(auto, unfolding(crate::specs::Bytes::role_for, t7_layout::specs::Roles::family_of))]
-fn role_for(message: &Public) -> Role
-    requires { message.now ≢ public.Other }
-    ensures role { result ≡ role_for message.now }
-    ensures family { family_of result ≡ Eobi }
-{
-    match message {
-        Public::Add { .. } => Role::OrderAdd,
-        Public::Modify { .. } => Role::OrderModify,
-        Public::SamePriority { .. } => Role::OrderModifySamePriority,
-        Public::Delete { .. } => Role::OrderDelete,
-        Public::MassDelete { .. } => Role::OrderMassDelete,
-        Public::Partial { .. } => Role::PartialOrderExecution,
-        Public::Full { .. } => Role::FullOrderExecution,
-        Public::Summary { .. } => Role::ExecutionSummary,
-        Public::Other => unreachable!(),
-    }
-}
 
 /// How many bytes a live message has, from 8 to 128: those of its role's template, which every table has.
 pub fn message_size(table: &Table, message: &Public) -> usize

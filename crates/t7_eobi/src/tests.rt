@@ -1,4 +1,4 @@
-// Datagrams of the sample table, read and written.
+//! Datagrams of the sample table, read and written.
 
 ghost use Rattle.std.specs.Prelude.{◌≡◌, ◌≢◌, ◌<◌, ◌≤◌, IfSome, length, pos};
 ghost use Rattle.t7_base.specs.declared.public.Public.TheVariants as public;

@@ -1,4 +1,4 @@
-// The items of a datagram, read in place one by one.
+//! The items of a datagram, read in place one by one.
 
 ghost use Rattle.std.specs.Prelude.{◌≡◌, ◌≤◌, ◌<◌, [], ◌∷◌, Some, None, IfSome, IfNone, true, false, length, nat_abs};
 ghost use Rattle.std.specs.List.{filter_map};
@@ -12,10 +12,9 @@ ghost use Rattle.t7_eobi.specs.Datagrams.{body_of, in_channel, live_as, live_of,
 ghost use Rattle.t7_eobi.specs.Faults.{fault_from, message_fault, role_fault};
 ghost use Rattle.t7_eobi.specs.Ranges.{IsSound, is_live};
 
-use crate::faults::read;
-use crate::messages::{in_channel, role_of, split};
-use crate::ranges::is_live;
+use crate::messages::{read, role_of, split_whole};
 use crate::records::{last_number, public, sequence_number, snap};
+use crate::roles::{in_channel, is_live};
 use byteorder::{ByteOrder, LittleEndian};
 use std::marker::Model;
 use t7_base::{Channel, Price, Public, Qty, SecurityId, Side, Stamp};
@@ -51,7 +50,6 @@ pub enum Snap {
 }
 
 // A message of no role of the live channel.
-#[tactic(auto, unfolding(crate::specs::Datagrams::other_of))]
 fn other_of(message: &[u8]) -> Option<Live>
     requires { 8 ≤ length message.now }
     ensures { result ≡ other_of message.now }
@@ -77,7 +75,7 @@ fn sound<'a>(table: &'a Table, channel: Channel, role: Role, message: &'a [u8]) 
 }
 
 // The number of a live message.
-#[tactic(auto, unfolding(crate::specs::Ranges::range_of, t7_layout::specs::Roles::kind_of), using(crate::proofs::MessageFacts::live_counts))]
+#[inline(always)]
 fn live_number(m: &Fields<'_>) -> u32
     requires live { is_live m.now.role ≡ true }
     requires sound { IsSound m.now }
@@ -87,7 +85,6 @@ fn live_number(m: &Fields<'_>) -> u32
 }
 
 // The number in a heartbeat.
-#[tactic(auto, unfolding(crate::specs::Ranges::range_of, crate::specs::Ranges::counted, t7_fields::specs::Messages::is_among, t7_layout::specs::Roles::name_number, crate::specs::Ranges::is_live, t7_layout::specs::Roles::required, t7_layout::specs::Roles::kind_of))]
 fn beat_number(m: &Fields<'_>) -> u32
     requires role { m.now.role ≡ role.EobiHeartbeat }
     requires sound { IsSound m.now }
@@ -97,7 +94,7 @@ fn beat_number(m: &Fields<'_>) -> u32
 }
 
 // What a message of a role says on the live channel.
-#[tactic(auto, unfolding(crate::specs::Datagrams::live_as), using(crate::proofs::MessageFacts::live_in, crate::proofs::MessageFacts::beat_is))]
+#[inline(always)]
 fn live_as(table: &Table, role: Role, message: &[u8]) -> Option<Live>
     requires said { body_of message.now ≡ length message.now }
     requires long { 8 ≤ length message.now }
@@ -117,7 +114,7 @@ fn live_as(table: &Table, role: Role, message: &[u8]) -> Option<Live>
 }
 
 // What a message says on the live channel.
-#[tactic(auto, unfolding(crate::specs::Datagrams::live_of, crate::specs::Faults::message_fault))]
+#[inline(always)]
 fn live_of(table: &Table, message: &[u8]) -> Option<Live>
     requires said { body_of message.now ≡ length message.now }
     requires long { 8 ≤ length message.now }
@@ -131,7 +128,6 @@ fn live_of(table: &Table, message: &[u8]) -> Option<Live>
 }
 
 // What a message says on the snapshot channel.
-#[tactic(auto, unfolding(crate::specs::Datagrams::snap_of, crate::specs::Faults::message_fault))]
 fn snap_of(table: &Table, message: &[u8]) -> Option<Snap>
     requires said { body_of message.now ≡ length message.now }
     requires long { 8 ≤ length message.now }
@@ -147,7 +143,7 @@ fn snap_of(table: &Table, message: &[u8]) -> Option<Snap>
 }
 
 // The next item of live bytes, and the bytes behind its message.
-#[tactic(auto, using(crate::proofs::WalkFacts::walk_goes, crate::proofs::WalkFacts::walk_ends, crate::proofs::WalkFacts::walk_whole, crate::proofs::WalkFacts::walk_passes, crate::proofs::WalkFacts::messages_first))]
+#[inline(always)]
 fn next_live<'a>(table: &Table, bytes: &'a [u8]) -> Option<(Live, &'a [u8])>
     requires { fault_from table.now channels.Live 0 0 bytes.now ≡ None }
     ensures none { IfNone result (filter_map (live_of table.now) (messages_of bytes.now) ≡ []) }
@@ -156,10 +152,7 @@ fn next_live<'a>(table: &Table, bytes: &'a [u8]) -> Option<(Live, &'a [u8])>
 {
     let mut rest = bytes;
     while !rest.is_empty() {
-        let (message, after) = match split(rest) {
-            Some(parts) => parts,
-            None => unreachable!(),
-        };
+        let (message, after) = split_whole(rest);
         let item = live_of(table, message);
         rest = after;
         if let Some(item) = item {
@@ -170,7 +163,6 @@ fn next_live<'a>(table: &Table, bytes: &'a [u8]) -> Option<(Live, &'a [u8])>
 }
 
 // The next item of snapshot bytes, and the bytes behind its message.
-#[tactic(auto, using(crate::proofs::WalkFacts::walk_goes, crate::proofs::WalkFacts::walk_ends, crate::proofs::WalkFacts::walk_whole, crate::proofs::WalkFacts::walk_passes, crate::proofs::WalkFacts::messages_first))]
 fn next_snap<'a>(table: &Table, bytes: &'a [u8]) -> Option<(Snap, &'a [u8])>
     requires { fault_from table.now channels.Snap 0 0 bytes.now ≡ None }
     ensures none { IfNone result (filter_map (snap_of table.now) (messages_of bytes.now) ≡ []) }
@@ -179,10 +171,7 @@ fn next_snap<'a>(table: &Table, bytes: &'a [u8]) -> Option<(Snap, &'a [u8])>
 {
     let mut rest = bytes;
     while !rest.is_empty() {
-        let (message, after) = match split(rest) {
-            Some(parts) => parts,
-            None => unreachable!(),
-        };
+        let (message, after) = split_whole(rest);
         let item = snap_of(table, message);
         rest = after;
         if let Some(item) = item {

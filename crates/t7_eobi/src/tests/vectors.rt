@@ -1,5 +1,5 @@
-// Messages worked by hand from the sample table's layout, each field with another number: a field that is written at another's place
-// or read from it shows.
+//! Messages worked by hand from the sample table's layout, each field with another number: a field that is written at another's place
+//! or read from it shows.
 
 ghost use Rattle.std.specs.Prelude.{◌≡◌, ◌≢◌, IfSome};
 ghost use Rattle.t7_base.specs.declared.public.Public.TheVariants as public;
@@ -79,7 +79,7 @@ const ORDER: [u8; 40] = [
 ];
 
 // A live message is written as these bytes, and read again.
-fn is_live(table: &Table, number: u32, message: Public, bytes: &[u8]) -> bool
+fn is_spelled(table: &Table, number: u32, message: Public, bytes: &[u8]) -> bool
     requires some { message ≢ public.Other }
     requires number { IsSequence number }
     requires security { IsSecurity (security_of message) }
@@ -120,9 +120,9 @@ fn added_and_deleted(table: &Table) -> Option<[bool; 3]> {
     let deleted = resting(1005, Side::Buy, 0x43, 0x41, 0x42)?;
     let security = SecurityId(1006);
     Some([
-        is_live(table, 0x0102_0304, Public::Add { order: added }, &ADD),
-        is_live(table, 0x44, Public::Delete { order: deleted }, &DELETE),
-        is_live(table, 0x51, Public::MassDelete { security }, &MASS_DELETE),
+        is_spelled(table, 0x0102_0304, Public::Add { order: added }, &ADD),
+        is_spelled(table, 0x44, Public::Delete { order: deleted }, &DELETE),
+        is_spelled(table, 0x51, Public::MassDelete { security }, &MASS_DELETE),
     ])
 }
 
@@ -146,8 +146,8 @@ fn changed(table: &Table) -> Option<[bool; 2]> {
         qty: Qty::new(0x33)?,
     };
     Some([
-        is_live(table, 0x27, modified, &MODIFY),
-        is_live(table, 0x35, lowered, &SAME_PRIORITY),
+        is_spelled(table, 0x27, modified, &MODIFY),
+        is_spelled(table, 0x35, lowered, &SAME_PRIORITY),
     ])
 }
 
@@ -176,9 +176,9 @@ fn executed(table: &Table) -> Option<[bool; 3]> {
         last_price: Price::new(0x83)?,
     };
     Some([
-        is_live(table, 0x65, partial, &PARTIAL),
-        is_live(table, 0x75, full, &FULL),
-        is_live(table, 0x84, summary, &SUMMARY),
+        is_spelled(table, 0x65, partial, &PARTIAL),
+        is_spelled(table, 0x75, full, &FULL),
+        is_spelled(table, 0x84, summary, &SUMMARY),
     ])
 }
 

@@ -6,5 +6,5 @@ use Rattle.t7_eobi.proofs.records.last_number.Goals as goal
 pub overflow_cast-result : goal.overflow_cast-result
 overflow_cast-result c =
     let e = sound_range c.args.m.now c.args.name range.Processed c.requires.sound (counts c.args.m.now.role c.args.name c.requires.there) c.requires.range in
-    let b : c.count.result < 2 ^ 32 = is_last c.count.result (rw c.count.ensures.value e) in
+    let b : c.natural.result < 2 ^ 32 = is_last c.natural.result (rw c.natural.ensures.value e) in
     omega arith

@@ -7,11 +7,11 @@ use Rattle.t7_eobi.proofs.records.sequence_number.Goals as goal
 pub overflow_cast-result : goal.overflow_cast-result
 overflow_cast-result c =
     let e = sound_range c.args.m.now c.args.name range.Sequence c.requires.sound (counts c.args.m.now.role c.args.name c.requires.there) c.requires.range in
-    let b : c.count.result < 2 ^ 32 = is_sequence c.count.result (rw c.count.ensures.value e) in
+    let b : c.natural.result < 2 ^ 32 = is_sequence c.natural.result (rw c.natural.ensures.value e) in
     omega arith
 
 pub returns-clause-in_range : goal.returns-clause-in_range
 returns-clause-in_range c =
     let e = sound_range c.args.m.now c.args.name range.Sequence c.requires.sound (counts c.args.m.now.role c.args.name c.requires.there) c.requires.range in
-    let b : IsSequence c.count.result = seq_abs (pos c.count.result) (rw c.count.ensures.value e) in
+    let b : IsSequence c.natural.result = seq_abs (pos c.natural.result) (rw c.natural.ensures.value e) in
     b

@@ -2,7 +2,7 @@ use Rattle.t7_eobi.specs.declared.ranges.Range.TheVariants as range
 use Rattle.t7_eobi.proofs.RangeFacts.{counts, is_stamp, sound_range}
 use Rattle.t7_eobi.proofs.records.stamp.Goals as goal
 
-pub unreachable-requires : goal.unreachable-requires
-unreachable-requires c =
+pub known-requires : goal.known-requires
+known-requires c =
     let e = sound_range c.args.m.now c.args.name range.Stamp c.requires.sound (counts c.args.m.now.role c.args.name c.requires.there) c.requires.range in
-    c.in-None.ensures (is_stamp _ (rw c.count.ensures.value e))
+    is_stamp _ (rw c.natural.ensures.value e)

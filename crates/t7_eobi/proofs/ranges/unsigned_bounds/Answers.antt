@@ -1,0 +1,32 @@
+use Rattle.std.proofs.Common.{◌≡◌, leb, true, refl, arith}
+use Rattle.std.proofs.lemmas.Bool.Decides.{nat_tests}
+use Rattle.t7_eobi.specs.Ranges.{in_range}
+use Rattle.t7_eobi.proofs.ranges.unsigned_bounds.Goals as goal
+
+pub returns-in-Any : goal.returns-in-Any
+unfolding in_range
+returns-in-Any c = λ n small. let low : leb 0 n ≡ true = grind (arith, nat_tests) in let high : leb n 18_446_744_073_709_551_615 ≡ true = grind (arith, nat_tests) in rw (c.in-Any.is, low, high) refl
+
+pub returns-in-Sequence : goal.returns-in-Sequence
+unfolding in_range
+returns-in-Sequence c = λ n small. rw c.in-Sequence.is refl
+
+pub returns-in-Processed : goal.returns-in-Processed
+unfolding in_range
+returns-in-Processed c = λ n small. rw c.in-Processed.is refl
+
+pub returns-in-Side : goal.returns-in-Side
+unfolding in_range
+returns-in-Side c = λ n small. rw c.in-Side.is refl
+
+pub returns-in-Price : goal.returns-in-Price
+unfolding in_range
+returns-in-Price c = λ n small. let low : leb 0 n ≡ true = grind (arith, nat_tests) in rw (c.in-Price.is, low) refl
+
+pub returns-in-Quantity : goal.returns-in-Quantity
+unfolding in_range
+returns-in-Quantity c = λ n small. rw c.in-Quantity.is refl
+
+pub returns-in-Stamp : goal.returns-in-Stamp
+unfolding in_range
+returns-in-Stamp c = λ n small. rw c.in-Stamp.is refl

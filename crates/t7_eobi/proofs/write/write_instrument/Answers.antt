@@ -1,0 +1,25 @@
+use Rattle.std.proofs.Common.{refl, rules}
+use Rattle.t7_eobi.specs.declared.walks.Snap.TheVariants as snaps
+use Rattle.t7_eobi.specs.Bytes.{IsSnap, snap_fields}
+use Rattle.t7_fields.proofs.WriteFacts.{alone_at}
+use Rattle.t7_eobi.proofs.write.write_instrument.Goals as goal
+
+pub say-requires-clause-said : goal.say-requires-clause-said
+unfolding snap_fields
+say-requires-clause-said c =
+    let ranged : IsSnap (snaps.Instrument c.args.security c.args.count) = search rules in
+    let one = alone_at c.args.table.now c.args.role (snap_fields (snaps.Instrument c.args.security c.args.count)) 0 _ (c.requires.said ranged) refl in
+    search (rules, one)
+
+pub say-requires-2-clause-said : goal.say-requires-2-clause-said
+unfolding snap_fields
+say-requires-2-clause-said c =
+    let ranged : IsSnap (snaps.Instrument c.args.security c.args.count) = search rules in
+    let one = alone_at c.args.table.now c.args.role (snap_fields (snaps.Instrument c.args.security c.args.count)) 1 _ (c.requires.said ranged) refl in
+    search (rules, one)
+
+pub returns-clause-said : goal.returns-clause-said
+unfolding snap_fields
+returns-clause-said c =
+    let all = c.say-2.ensures.said _ _ (c.say.ensures.said _ _ c.begin-size.ensures.said) in
+    search (rules, all)
