@@ -9,7 +9,7 @@ use Rattle.t7_book.specs.declared.order.Order.{Order}
 use Rattle.t7_book.specs.declared.command.Command.{Command}
 use Rattle.t7_book.specs.About.{IsAbout}
 use Rattle.t7_book.specs.Orders.{Roster, roster_of}
-use Rattle.t7_book.specs.Steps.{Step, messages}
+use Rattle.t7_book.specs.Steps.{Effect, messages}
 use Rattle.t7_book.specs.Trace.{AreAccepted, trace}
 use Rattle.t7_book.proofs.Fit.{IsFit, Known}
 use Rattle.t7_book.proofs.Lists.{IsIn, each_at}
@@ -36,7 +36,7 @@ module _ (roster : Roster) where
     modify = λ last orders fit y at price total stamp above. listed last orders fit y at;
   }
 
-  run_about : (last : ℕ) (orders : List Order) (ss : List Step) → Run roster Says last orders ss → All (IsAbout roster.securities) (messages ss)
+  run_about : (last : ℕ) (orders : List Order) (ss : List Effect) → Run roster Says last orders ss → All (IsAbout roster.securities) (messages ss)
   run_about last orders [] run = All-nil (IsAbout roster.securities)
   run_about last orders (s ∷ ss) run = All-cons (IsAbout roster.securities) s.0 (messages ss) run.1 (run_about last s.1 ss run.2)
 

@@ -9,7 +9,7 @@ use Rattle.t7_book.specs.Orders.{BookState}
 use Rattle.t7_book.specs.Trades.{trades, fills}
 use Rattle.t7_book.specs.Orders.{is_of}
 use Rattle.t7_book.specs.Commands.{new_stamp, is_full}
-use Rattle.t7_book.specs.Steps.{Step, messages, list_after, arrival, deletions, Applies}
+use Rattle.t7_book.specs.Steps.{Effect, messages, list_after, arrival, deletions, Applies}
 use Rattle.std.specs.List.{filter}
 use Rattle.t7_book.proofs.StepLemmas.{messages_deletions}
 
@@ -24,7 +24,7 @@ module _ (book : BookState) (moment session : ℕ) (security : ℤ) (side : Side
     id = book.last_id + 1;
   }
 
-  abbrev pub entry : ℕ → List Step
+  abbrev pub entry : ℕ → List Effect
   entry stamp = arrival book.roster.securities (entering stamp) (trades (entering stamp).rest book.orders) book.orders
 
   -- a New that is not refused

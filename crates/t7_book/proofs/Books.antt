@@ -8,7 +8,7 @@ use Rattle.t7_book.specs.declared.trade.Trade.{Trade}
 use Rattle.t7_book.specs.declared.command.Command.{Command}
 use Rattle.t7_book.specs.Orders.{BookState, Roster, empty_book, renewed, roster_of, same_name, with_left, without}
 use Rattle.t7_book.specs.Trades.{after_trade, crosses, is_used_up}
-use Rattle.t7_book.specs.Steps.{Step, book_after, steps}
+use Rattle.t7_book.specs.Steps.{Effect, book_after, steps}
 use Rattle.t7_book.specs.Trace.{AreAccepted, AreAcceptedFrom, book_left, market, trace, trace_from}
 use Rattle.t7_book.specs.Laws.{CommandsAddTheirSteps, Each, Distinct, IsAccepted, IsBook, IsInOrder, IsWhole, MarketsAreBooks, TradesLeaveBooks, left_by, trade_with}
 use Rattle.t7_book.specs.Sound.{IsRunning}
@@ -110,7 +110,7 @@ pub commands_add_their_steps : CommandsAddTheirSteps
 commands_add_their_steps listing cs c =
     let start = empty_book (roster_of listing) in
     record {
-      behind = trace_from-append start cs (c ∷ []) ∙ ap (λ (ss : List Step). trace_from start cs ++ ss) (append-nil (steps (left_by listing cs) c));
+      behind = trace_from-append start cs (c ∷ []) ∙ ap (λ (ss : List Effect). trace_from start cs ++ ss) (append-nil (steps (left_by listing cs) c));
       leaves = left_more start cs c;
       accepted = accepted_more listing cs c;
     }

@@ -15,7 +15,7 @@ use Rattle.t7_book.specs.Orders.{same_name, without, with_left, renewed, order_o
 use Rattle.t7_book.specs.Trades.{after_trade, after_trades, is_used_up, trades}
 use Rattle.t7_book.specs.Laws.{Each, Distinct}
 use Rattle.t7_book.specs.Numbers.{is_listed, number_of, rank_of_price}
-use Rattle.t7_book.specs.Kept.{IsNumbered, Listed, MayEnter, Stands, orders_in}
+use Rattle.t7_book.specs.Kept.{IsNumbered, OrderList, MayEnter, Stands, orders_in}
 use Rattle.t7_book.proofs.InOrder as in_order
 use Rattle.t7_book.proofs.Lists.{IsIn, each_at, each_weaker, each_filter, each_renewed, found_in, stands}
 use Rattle.t7_book.proofs.Makers.{AreMakers, makers_after, trades_makers}
@@ -106,7 +106,7 @@ each_trades P keeps (t ∷ ts) ys makers each =
     each_trades P keeps ts (after_trade t ys) (makers_after t ts ys makers.2 makers.3) (each_trade P keeps t ys makers.0 each)
 
 -- what is left of an incoming order may enter after its trades
-pub enters_after : (o : Listed) (x : Order) (left : ℕ) → Distinct o.list → MayEnter o x → MayEnter (record { securities = o.securities; list = after_trades (trades x.rest o.list) o.list }) (with_left x left)
+pub enters_after : (o : OrderList) (x : Order) (left : ℕ) → Distinct o.list → MayEnter o x → MayEnter (record { securities = o.securities; list = after_trades (trades x.rest o.list) o.list }) (with_left x left)
 enters_after o x left distinct enters =
     let ts = trades x.rest o.list in
     let makers = trades_makers x.rest o.list distinct in
@@ -119,7 +119,7 @@ enters_after o x left distinct enters =
     }
 
 -- an order that takes a new stamp may enter where it was taken out
-pub enters_again : (o : Listed) (y x : Order) → Distinct o.list → Once id_of o.list → Stands o.list y → x.id ≡ y.id → is_listed o.securities x.rest.security ≡ true → length (without y.rest o.list) < 20_000
+pub enters_again : (o : OrderList) (y x : Order) → Distinct o.list → Once id_of o.list → Stands o.list y → x.id ≡ y.id → is_listed o.securities x.rest.security ≡ true → length (without y.rest o.list) < 20_000
     → Each (λ z. z.rest.stamp ≢ x.rest.stamp) o.list → MayEnter (record { securities = o.securities; list = without y.rest o.list }) x
 enters_again o y x distinct once here id listed room new =
     let differ = others_differ y o.list (ids_alike y o.list distinct once (in_list y o.list here)) in

@@ -5,7 +5,7 @@ use Rattle.t7_book.specs.declared.order.Order.{Order}
 use Rattle.t7_book.specs.declared.command.Command.{Command}
 use Rattle.t7_book.specs.Orders.{BookState, Roster, empty_book, roster_of}
 use Rattle.t7_book.specs.Commands.{IsForProduct, refusal}
-use Rattle.t7_book.specs.Steps.{Step, book_after, last_stamp_after, list_after, steps}
+use Rattle.t7_book.specs.Steps.{Effect, book_after, last_stamp_after, list_after, steps}
 use Rattle.t7_book.specs.Trace.{AreAccepted, AreAcceptedFrom, book_left}
 use Rattle.t7_book.specs.About.{IsLeft}
 use Rattle.t7_book.specs.Laws.{IsWhole}
@@ -14,7 +14,7 @@ use Rattle.t7_book.proofs.Lists.{each_weaker}
 use Rattle.t7_book.proofs.Running.{Run}
 use Rattle.t7_book.proofs.RunningDay.{Any, BookFits, any_links, run_steps}
 
-fit_after : (roster : Roster) (last : ℕ) (orders : List Order) (ss : List Step) → Run roster Any last orders ss → IsFit roster last (list_after ss orders)
+fit_after : (roster : Roster) (last : ℕ) (orders : List Order) (ss : List Effect) → Run roster Any last orders ss → IsFit roster last (list_after ss orders)
 fit_after roster last orders [] run = run
 fit_after roster last orders (s ∷ ss) run = fit_after roster last s.1 ss run.2
 

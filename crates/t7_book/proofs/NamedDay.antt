@@ -11,7 +11,7 @@ use Rattle.t7_book.specs.declared.command.BookRefusal.TheVariants.{BookFull}
 use Rattle.t7_book.specs.Orders.{BookState, goes_before, is_in, is_of, is_order, order_of, renewed, same_name, with_left, with_order, without}
 use Rattle.t7_book.specs.Commands.{changed_order, is_full, keeps_priority, new_order, new_stamp, refusal, with_total}
 use Rattle.t7_book.specs.Trades.{after_trade, after_trades, traded, trades}
-use Rattle.t7_book.specs.Steps.{Step, arrival, book_after, cancellation, change, crossing, deletions, executions, last_id_after, list_after, modification, remainder, steps}
+use Rattle.t7_book.specs.Steps.{Effect, arrival, book_after, cancellation, change, crossing, deletions, executions, last_id_after, list_after, modification, remainder, steps}
 use Rattle.t7_book.specs.Trace.{AreAcceptedFrom, list_at, trace_from}
 use Rattle.t7_book.specs.Laws.{Each, Distinct}
 use Rattle.t7_book.proofs.Kepts.{each_trade}
@@ -23,25 +23,25 @@ use Rattle.t7_book.proofs.RunningDay.{BookFits}
 use Rattle.t7_book.proofs.StepLemmas.{list_after_executions}
 
 -- P holds of the list beside each message
-abbrev pub AllLists : (List Order → Type 0) → List Step → Type 0
+abbrev pub AllLists : (List Order → Type 0) → List Effect → Type 0
 AllLists P [] = Unit {0}
 AllLists P (s ∷ ss) = P s.1 × AllLists P ss
 
 module _ (P : List Order → Type 0) where
-  pub lists_append : (a b : List Step) → AllLists P a → AllLists P b → AllLists P (a ++ b)
+  pub lists_append : (a b : List Effect) → AllLists P a → AllLists P b → AllLists P (a ++ b)
   lists_append [] b first rest = rest
   lists_append (s ∷ a) b first rest = (first.0, lists_append a b first.1 rest)
 
-  pub last_list : (ss : List Step) (orders : List Order) → P orders → AllLists P ss → P (list_after ss orders)
+  pub last_list : (ss : List Effect) (orders : List Order) → P orders → AllLists P ss → P (list_after ss orders)
   last_list [] orders here all = here
   last_list (s ∷ ss) orders here all = last_list ss s.1 all.0 all.1
 
-  pub list_of : (ss : List Step) (orders : List Order) (n : ℕ) → P orders → AllLists P ss → P (list_at orders ss n)
+  pub list_of : (ss : List Effect) (orders : List Order) (n : ℕ) → P orders → AllLists P ss → P (list_at orders ss n)
   list_of ss orders zero here all = here
   list_of [] orders (suc n) here all = here
   list_of (s ∷ ss) orders (suc n) here all = list_of ss s.1 n all.0 all.1
 
-lists_weaker : (P Q : List Order → Type 0) → ((orders : List Order) → P orders → Q orders) → (ss : List Step) → AllLists P ss → AllLists Q ss
+lists_weaker : (P Q : List Order → Type 0) → ((orders : List Order) → P orders → Q orders) → (ss : List Effect) → AllLists P ss → AllLists Q ss
 lists_weaker P Q f [] all = tt
 lists_weaker P Q f (s ∷ ss) all = (f s.1 all.0, lists_weaker P Q f ss all.1)
 

@@ -13,7 +13,7 @@ use Rattle.t7_book.specs.declared.command.BookRefusal.TheVariants.{BelowExecuted
 use Rattle.t7_book.specs.Orders.{same_name, without, with_left, with_order, renewed, order_of, is_order, is_in}
 use Rattle.t7_book.specs.Commands.{executed_of, with_total, changed_order, is_full, change_refusal}
 use Rattle.t7_book.specs.Trades.{traded, is_used_up, after_trade, after_trades, execution}
-use Rattle.t7_book.specs.Steps.{Step, list_after, executions, remainder, crossing, arrival, change, deletions, cancellation}
+use Rattle.t7_book.specs.Steps.{Effect, list_after, executions, remainder, crossing, arrival, change, deletions, cancellation}
 use Rattle.t7_book.specs.Laws.{Each, Distinct, IsWhole}
 use Rattle.t7_book.proofs.StepLemmas.{list_after_executions, length_after_trades}
 use Rattle.t7_book.proofs.Lists.{IsIn, each_at, in_filter, found_in, other_name}
@@ -69,12 +69,12 @@ above_from y qty accepted = elim (cases_Bool (nat_le qty (executed_of y))) [
 ]
 
 -- each step is related, and each list is fit for the last stamp
-abbrev pub Run : (roster : Roster) → (List Order → Public → List Order → Type 0) → ℕ → List Order → List Step → Type 0
+abbrev pub Run : (roster : Roster) → (List Order → Public → List Order → Type 0) → ℕ → List Order → List Effect → Type 0
 Run roster R last orders [] = IsFit roster last orders
 Run roster R last orders (s ∷ ss) = IsFit roster last orders × R orders s.0 s.1 × Run roster R last s.1 ss
 
 module _ (roster : Roster) (R : List Order → Public → List Order → Type 0) (links : Links roster R) where
-  pub run_append : (last later : ℕ) (orders : List Order) (a b : List Step) → last ≤ later
+  pub run_append : (last later : ℕ) (orders : List Order) (a b : List Effect) → last ≤ later
       → Run roster R last orders a → (IsFit roster last (list_after a orders) → Run roster R later (list_after a orders) b) → Run roster R later orders (a ++ b)
   run_append last later orders [] b le run next = next run
   run_append last later orders (s ∷ ss) b le run next = (fit_later roster last later orders le run.0, run.1, run_append last later s.1 ss b le run.2 next)

@@ -10,7 +10,7 @@ use Rattle.t7_book.specs.declared.command.Command.TheVariants as command
 use Rattle.t7_book.specs.Orders.{Roster, roster_of, BookState, empty_book, same_name, without, renewed, order_of, is_order, is_in, is_of}
 use Rattle.t7_book.specs.Commands.{IsForProduct, new_stamp, new_order, keeps_priority, with_total, changed_order, refusal, change_refusal}
 use Rattle.t7_book.specs.Trades.{trades}
-use Rattle.t7_book.specs.Steps.{Step, change, modification, steps, stamp_after_change, last_stamp_after, book_after}
+use Rattle.t7_book.specs.Steps.{Effect, change, modification, steps, stamp_after_change, last_stamp_after, book_after}
 use Rattle.t7_book.specs.Trace.{trace, trace_from, book_left, list_at, AreAcceptedFrom, AreAccepted}
 use Rattle.t7_book.specs.Laws.{IsWhole}
 use Rattle.t7_book.proofs.TradeLemmas.{length_without}
@@ -20,7 +20,7 @@ use Rattle.t7_book.proofs.Makers.{trades_makers, each_in}
 use Rattle.t7_book.proofs.Running.{Links, Run, run_append, run_change, run_arrival, run_cancellation, run_deletions, gone_from, room_from, above_from}
 
 -- the steps of a modification that keeps the priority
-abbrev steps_kept : BookState → Order → ℕ → List Step
+abbrev steps_kept : BookState → Order → ℕ → List Effect
 steps_kept book y qty = (SamePriority y.rest.security y.rest.side y.rest.stamp y.rest.price y.rest.qty (with_total y qty).rest.qty, renewed (with_total y qty) book.orders) ∷ []
 
 abbrev pub BookFits : BookState → Type 0
@@ -98,12 +98,12 @@ module _ (R : List Order → Public → List Order → Type 0) where
   run_day listing links cs accepted = run_trace (empty_book (roster_of listing)) links cs (record { distinct = tt; in_order = tt; known = tt; few = omega arith }) accepted.each
 
   module _ (roster : Roster) (last : ℕ) where
-    fit_now : (orders : List Order) (ss : List Step) → Run roster R last orders ss → IsFit roster last orders
+    fit_now : (orders : List Order) (ss : List Effect) → Run roster R last orders ss → IsFit roster last orders
     fit_now orders [] run = run
     fit_now orders (s ∷ ss) run = run.0
 
     -- each list on the way is fit
-    pub fit_at : (orders : List Order) (ss : List Step) (n : ℕ) → Run roster R last orders ss → IsFit roster last (list_at orders ss n)
+    pub fit_at : (orders : List Order) (ss : List Effect) (n : ℕ) → Run roster R last orders ss → IsFit roster last (list_at orders ss n)
     fit_at orders ss zero run = fit_now orders ss run
     fit_at orders [] (suc n) run = run
     fit_at orders (s ∷ ss) (suc n) run = fit_at s.1 ss n run.2

@@ -8,13 +8,13 @@ use Rattle.t7_book.specs.Orders.{with_left, with_order, without, renewed, same_n
 use Rattle.t7_book.proofs.ListLemmas.{length_filter_le}
 use Rattle.t7_book.proofs.Lists.{length_renewed}
 use Rattle.t7_book.specs.Trades.{traded, is_used_up, after_trade, after_trades, execution}
-use Rattle.t7_book.specs.Steps.{Step, messages, list_after, executions, remainder, crossing, arrival, change, deletions, summary}
+use Rattle.t7_book.specs.Steps.{Effect, messages, list_after, executions, remainder, crossing, arrival, change, deletions, summary}
 
-pub messages_append : (a b : List Step) → messages (a ++ b) ≡ messages a ++ messages b
+pub messages_append : (a b : List Effect) → messages (a ++ b) ≡ messages a ++ messages b
 messages_append [] b = refl
 messages_append (s ∷ a) b = ap (λ (t : List Public). s.0 ∷ t) (messages_append a b)
 
-pub list_after_append : (a b : List Step) (orders : List Order) → list_after (a ++ b) orders ≡ list_after b (list_after a orders)
+pub list_after_append : (a b : List Effect) (orders : List Order) → list_after (a ++ b) orders ≡ list_after b (list_after a orders)
 list_after_append [] b orders = refl
 list_after_append (s ∷ a) b orders = list_after_append a b s.1
 

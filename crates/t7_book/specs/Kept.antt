@@ -30,7 +30,7 @@ abbrev pub is_on : ℤ → Side → Order → Bool
 is_on security side y = int_eq y.rest.security security && is_side y.rest.side side
 
 -- what contracts see of the orders: the product's securities, and the list in the order of the book
-pub record Listed : Type 0 where
+pub record OrderList : Type 0 where
   pub securities : List ℤ
   pub list : List Order
 
@@ -68,7 +68,7 @@ pub record Requantifies (list : List Order) (x : Order) : Type 0 where
   pub same_rest : x.rest ≡ record kept.rest { qty = x.rest.qty }
 
 -- x may come into the list: its security is the product's, there is room for it, and its stamp and its id are new
-pub record MayEnter (orders : Listed) (x : Order) : Type 0 where
+pub record MayEnter (orders : OrderList) (x : Order) : Type 0 where
   pub listed : is_listed orders.securities x.rest.security ≡ true
   pub room : length orders.list < 20_000
   pub new_stamp : Each (λ y. y.rest.stamp ≢ x.rest.stamp) orders.list

@@ -9,13 +9,13 @@ use Rattle.t7_book.specs.declared.command.Command.{Command}
 use Rattle.t7_book.specs.Orders.{BookState, empty_book, goes_before, is_in, roster_of}
 use Rattle.t7_book.specs.Trades.{crosses, trades, after_trade}
 use Rattle.t7_book.specs.Commands.{executed_of, IsForProduct, refusal}
-use Rattle.t7_book.specs.Steps.{Step, book_after, messages, notes_of, steps}
+use Rattle.t7_book.specs.Steps.{Effect, book_after, messages, notes_of, steps}
 use Rattle.t7_book.specs.Trace.{trace, market, book_left, AreAccepted}
 
 -- The trace of commands is a prefix of the trace of any list that begins with them,
 -- so commands that follow change neither a message nor the book after it.
 pub record IsKeptByMore (listing : Listing) (cs more : List Command) : Type 0 where
-  pub messages : (rest : List Step) × (trace listing (cs ++ more) ≡ trace listing cs ++ rest)
+  pub messages : (rest : List Effect) × (trace listing (cs ++ more) ≡ trace listing cs ++ rest)
   pub books : (n : ℕ) → n ≤ length (trace listing cs) → market listing (cs ++ more) n ≡ market listing cs n
 
 -- the first law

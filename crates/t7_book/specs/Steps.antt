@@ -17,16 +17,16 @@ use Rattle.t7_book.specs.Trades.{trades, traded, last_price, after_trade, after_
 use Rattle.t7_book.specs.Commands.{new_stamp, new_order, with_total, changed_order, keeps_priority, refusal}
 
 -- a message, and the book after it
-abbrev pub Step : Type 0
-Step = Public × List Order
+abbrev pub Effect : Type 0
+Effect = Public × List Order
 
 -- the trades, each beside the book after it
-abbrev pub executions : List Trade → List Order → List Step
+abbrev pub executions : List Trade → List Order → List Effect
 executions [] orders = []
 executions (t ∷ ts) orders = (execution t, after_trade t orders) ∷ executions ts (after_trade t orders)
 
 -- what is left of an incoming order comes to rest
-abbrev pub remainder : List ℤ → Order → ℕ → List Order → List Step
+abbrev pub remainder : List ℤ → Order → ℕ → List Order → List Effect
 remainder securities x zero orders = []
 remainder securities x (suc n) orders = (Add (with_left x (suc n)).rest, with_order securities (with_left x (suc n)) orders) ∷ []
 
@@ -35,28 +35,28 @@ abbrev pub summary : Order → List Trade → Public
 summary x ts = Summary x.rest.security x.rest.side x.rest.stamp (traded ts) (last_price x.rest.price ts)
 
 -- an incoming order with these trades: a summary beside the unchanged book, the trades, and what is left
-abbrev pub crossing : List ℤ → Order → List Trade → List Order → List Step
+abbrev pub crossing : List ℤ → Order → List Trade → List Order → List Effect
 crossing securities x ts orders =
     (summary x ts, orders)
     ∷ executions ts orders ++ remainder securities x (x.rest.qty - traded ts) (after_trades ts orders)
 
 -- a new order: it comes to rest where it has no trades
-abbrev pub arrival : List ℤ → Order → List Trade → List Order → List Step
+abbrev pub arrival : List ℤ → Order → List Trade → List Order → List Effect
 arrival securities x [] orders = (Add x.rest, with_order securities x orders) ∷ []
 arrival securities x (t ∷ ts) orders = crossing securities x (t ∷ ts) orders
 
 -- the order y becomes x with a new stamp; the list is the book without y
-abbrev pub change : List ℤ → Order → Order → List Trade → List Order → List Step
+abbrev pub change : List ℤ → Order → Order → List Trade → List Order → List Effect
 change securities y x [] orders = (Modify x.rest.security x.rest.side y.rest.stamp y.rest.price y.rest.qty x.rest.stamp x.rest.price x.rest.qty, with_order securities x orders) ∷ []
 change securities y x (t ∷ ts) orders = (Delete y.rest, orders) ∷ crossing securities x (t ∷ ts) orders
 
 -- the orders go, one after another
-abbrev pub deletions : List Order → List Order → List Step
+abbrev pub deletions : List Order → List Order → List Effect
 deletions [] orders = []
 deletions (y ∷ ys) orders = (Delete y.rest, without y.rest orders) ∷ deletions ys (without y.rest orders)
 
 -- a modification of the order that was found: it keeps its stamp, or it takes a new one and may trade
-abbrev pub modification : BookState → Option Order → ℕ → ℤ → ℕ → List Step
+abbrev pub modification : BookState → Option Order → ℕ → ℤ → ℕ → List Effect
 modification book None moment price qty = []
 modification book (Some y) moment price qty =
     let x = changed_order y price qty (new_stamp book moment) in
@@ -66,12 +66,12 @@ modification book (Some y) moment price qty =
     else change book.roster.securities y x (trades x.rest others) others
 
 -- a deletion of the order that was found
-abbrev pub cancellation : Option Order → List Order → List Step
+abbrev pub cancellation : Option Order → List Order → List Effect
 cancellation None orders = []
 cancellation (Some y) orders = (Delete y.rest, without y.rest orders) ∷ []
 
 -- the messages of a command, each beside the book after it
-abbrev pub steps : BookState → Command → List Step
+abbrev pub steps : BookState → Command → List Effect
 steps book (command.New moment session security side price qty client) =
     let x = new_order book moment session security side price qty in
     arrival book.roster.securities x (trades x.rest book.orders) book.orders
@@ -83,11 +83,11 @@ steps book (command.DeleteAll moment session security) = deletions (filter (is_o
 steps book (command.Clear moment security) = (MassDelete security, filter (λ y. not (is_in security y)) book.orders) ∷ []
 
 -- the messages alone
-abbrev pub messages : List Step → List Public
+abbrev pub messages : List Effect → List Public
 messages ss = map (λ s. s.0) ss
 
 -- the list beside the last message, or the list before where there is none
-abbrev pub list_after : List Step → List Order → List Order
+abbrev pub list_after : List Effect → List Order → List Order
 list_after [] orders = orders
 list_after (s ∷ ss) orders = list_after ss s.1
 

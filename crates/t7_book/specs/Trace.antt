@@ -5,15 +5,15 @@ use Rattle.t7_book.specs.declared.order.Order.{Order}
 use Rattle.t7_book.specs.declared.command.Command.{Command}
 use Rattle.t7_book.specs.Orders.{BookState, empty_book, roster_of}
 use Rattle.t7_book.specs.Commands.{IsForProduct, refusal}
-use Rattle.t7_book.specs.Steps.{Step, steps, book_after}
+use Rattle.t7_book.specs.Steps.{Effect, steps, book_after}
 
 -- the steps of the commands, each from the book that the commands before it leave
-abbrev pub trace_from : BookState → List Command → List Step
+abbrev pub trace_from : BookState → List Command → List Effect
 trace_from book [] = []
 trace_from book (c ∷ cs) = steps book c ++ trace_from (book_after book c) cs
 
 -- the steps of a day's commands
-abbrev pub trace : Listing → List Command → List Step
+abbrev pub trace : Listing → List Command → List Effect
 trace listing cs = trace_from (empty_book (roster_of listing)) cs
 
 -- the book that commands leave
@@ -22,7 +22,7 @@ book_left book [] = book
 book_left book (c ∷ cs) = book_left (book_after book c) cs
 
 -- the list beside the n-th message, or the list before the first
-abbrev pub list_at : List Order → List Step → ℕ → List Order
+abbrev pub list_at : List Order → List Effect → ℕ → List Order
 list_at orders ss zero = orders
 list_at orders [] (suc n) = orders
 list_at orders (s ∷ ss) (suc n) = list_at s.1 ss n

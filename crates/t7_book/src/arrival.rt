@@ -72,7 +72,6 @@ fn arrival_messages(alloc: Global, x: &Order, trades: &[Trade]) -> Result<Vec<Pu
 }
 
 /// Carries out the trades, and lets what is left of the incoming order rest.
-#[tactic(auto, using(crate::proofs::StepLemmas::settled_some, crate::proofs::StepLemmas::settled_none))]
 fn settle(orders: &mut Orders, x: &Order, made: &[Trade])
     requires made { made.now ≡ trades x.now.rest orders.old.list }
     requires within { traded made.now ≤ x.now.rest.qty }
@@ -104,7 +103,6 @@ fn admit(orders: &mut Orders, x: &Order, made: &[Trade])
 }
 
 /// A new order comes into the book.
-#[tactic(auto, using(crate::proofs::StepLemmas::messages_arrival))]
 pub(crate) fn arrive(
     orders: &mut Orders,
     x: &Order,
@@ -161,7 +159,6 @@ fn change_messages(
 }
 
 /// The resting order y becomes x, with a new stamp.
-#[tactic(auto, using(crate::proofs::StepLemmas::messages_change, crate::proofs::StepLemmas::list_after_change, crate::proofs::TradeLemmas::trades_without))]
 pub(crate) fn change(
     orders: &mut Orders,
     y: &Order,

@@ -11,14 +11,15 @@ ghost use Rattle.t7_book.specs.Sound.{IsRunning};
 ghost use Rattle.t7_book.specs.Steps.{Applies};
 
 use crate::commit::commit;
-use crate::orders::{MOST_ORDERS, Orders};
+use crate::orders::Orders;
 use crate::{BookRefusal, Command, Done, Note, Order, arrival, order, removal};
 use std::alloc::{AllocError, Global};
 use std::marker::Model;
 use t7_base::{Moment, OrderId, Price, Public, Qty, Resting, SecurityId, SessionId, Stamp};
+use t7_levels::MOST_ORDERS;
 
-/// How many orders of one security a book holds at most.
-const MOST_OF_SECURITY: usize = 10_000;
+/// How many orders of one security a book holds at most: 10,000.
+pub const MOST_OF_SECURITY: usize = 10_000;
 
 /// What a book holds: its orders, the last id and the last stamp, and how many commands were applied.
 #[derive(Drop)]

@@ -25,9 +25,11 @@ pub use laws::{
     messages_are_about_the_product, messages_are_few, orders_trade_in_turn, traces_grow,
     trades_leave_books,
 };
+pub use ledger::MOST_OF_SECURITY;
 pub use order::Order;
 pub use orders::BookWalk;
 pub use sides::Sides;
+pub use t7_levels::MOST_ORDERS;
 pub use trade::Trade;
 
 #[cfg(test)]

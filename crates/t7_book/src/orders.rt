@@ -21,9 +21,6 @@ use std::marker::Model;
 use t7_base::{OrderId, Price, Qty, Resting, SecurityId, SessionId, Side, Stamp};
 use t7_levels::{Shelves, Walk};
 
-/// How many orders a book holds at most.
-pub(crate) const MOST_ORDERS: usize = 20_000;
-
 /// The resting orders of a book. Room for all that it may hold is taken at the beginning.
 #[derive(Drop)]
 pub(crate) struct Orders {
@@ -34,9 +31,9 @@ pub(crate) struct Orders {
 }
 
 impl Model for Orders {
-    ghost use Rattle.t7_book.specs.Kept.{Listed, orders_in, AreKept};
+    ghost use Rattle.t7_book.specs.Kept.{OrderList, orders_in, AreKept};
 
-    ghost Value = { Listed };
+    ghost Value = { OrderList };
 
     ghost view = { λ o. record { securities = o.sides; list = orders_in o.shelves.list } };
 
@@ -361,7 +358,6 @@ impl<'a> Iterator for BookWalk<'a> {
 }
 
 /// The trades of an incoming order with the orders that it crosses, which stand in front of all that it doesn't cross.
-#[tactic(auto, using(crate::proofs::TradeLemmas::traded_taken))]
 fn trades_of(alloc: Global, x: &Resting, others: BookWalk<'_>) -> Result<Vec<Trade>, AllocError>
     requires { EndsAtFirst (λ y. crosses x.now y.rest) (walk_rest others) }
     ensures trades { IfOk result (λ found. found.items ≡ trades x.now (walk_rest others.entry)) }

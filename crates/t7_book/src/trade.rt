@@ -51,7 +51,6 @@ fn is_used_up(t: &Trade) -> bool
 }
 
 /// Carries out a trade on the resting order.
-#[tactic(auto, using(crate::proofs::StepLemmas::length_after_trade))]
 fn carry_out_one(orders: &mut Orders, t: &Trade)
     requires { Stands orders.old.list t.now.maker }
     ensures list { orders.new.list ≡ after_trade t.now orders.old.list }

@@ -2,7 +2,7 @@
 use Rattle.std.proofs.Common.{◌≡◌, ℕ, ℤ, ◌+◌, ◌<◌, List, [], ◌∷◌, ◌++◌, length, get_or, Some, None, refl, sym, ap, ◌∙◌, arith}
 use Rattle.std.proofs.lemmas.List.{append_assoc, append-nil}
 use Rattle.std.proofs.lemmas.List.Concat.{flat_map-append}
-use Rattle.t7_lists.specs.declared.place.Place.TheVariants.{Slot, Head}
+use Rattle.t7_lists.specs.declared.place.LinkEnd.TheVariants.{Slot, Head}
 use Rattle.t7_lists.specs.Paths.{last_or}
 use Rattle.t7_levels.specs.declared.key.LevelKey.{LevelKey}
 use Rattle.t7_levels.specs.Chain.{Each, slots, Ahead}

@@ -8,7 +8,7 @@ use Rattle.std.proofs.lemmas.Cmp.{tied_itself}
 use Rattle.std.proofs.lemmas.Bool.{cases_Bool}
 use Rattle.std.proofs.lemmas.Bool.Decides.{eqb_tells}
 use Rattle.std.proofs.lemmas.List.{map-append}
-use Rattle.t7_lists.specs.declared.place.Place.TheVariants.{Slot}
+use Rattle.t7_lists.specs.declared.place.LinkEnd.TheVariants.{Slot}
 use Rattle.t7_lists.specs.Paths.{Lacks, Apart}
 use Rattle.t7_lists.proofs.PathLemmas.{Lacks-back}
 use Rattle.t7_levels.specs.Chain.{Each, slots}

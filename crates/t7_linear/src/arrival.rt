@@ -70,7 +70,6 @@ fn arrival_messages(alloc: Global, x: &Order, trades: &[Trade]) -> Result<Vec<Pu
 }
 
 /// Carries out the trades, and lets what is left of the incoming order rest.
-#[tactic(auto, using(t7_book::proofs::StepLemmas::settled_some, t7_book::proofs::StepLemmas::settled_none))]
 fn settle(securities: &[SecurityId], orders: &mut Orders, x: &Order, trades: &[Trade])
     requires within { traded trades.now ≤ x.now.rest.qty }
     requires room { length orders.old < 20_000 }
@@ -97,7 +96,6 @@ fn admit(securities: &[SecurityId], orders: &mut Orders, x: &Order, trades: &[Tr
 }
 
 /// A new order comes into the book.
-#[tactic(auto, using(t7_book::proofs::StepLemmas::messages_arrival))]
 pub(crate) fn arrive(
     securities: &[SecurityId],
     orders: &mut Orders,
@@ -154,7 +152,6 @@ fn change_messages(
 }
 
 /// The resting order y becomes x, with a new stamp.
-#[tactic(auto, using(t7_book::proofs::StepLemmas::messages_change, t7_book::proofs::StepLemmas::list_after_change, t7_book::proofs::TradeLemmas::trades_without))]
 pub(crate) fn change(
     securities: &[SecurityId],
     orders: &mut Orders,

@@ -8,17 +8,14 @@ ghost use Rattle.t7_book.specs.Commands.{IsForProduct, refusal, is_full, new_sta
 ghost use Rattle.t7_book.specs.Steps.{Applies, done_of, book_after, messages, steps, notes_of};
 
 use crate::commit::commit;
-use crate::orders::{MOST_ORDERS, Orders};
+use crate::orders::Orders;
 use crate::{arrival, order, removal};
 use std::alloc::{AllocError, Global};
 use std::marker::Model;
 use t7_base::{
     Moment, OrderId, Price, Product, Public, Qty, Resting, SecurityId, SessionId, Stamp,
 };
-use t7_book::{BookRefusal, Command, Done, Note, Order};
-
-/// How many orders of one security a book holds at most.
-const MOST_OF_SECURITY: usize = 10_000;
+use t7_book::{BookRefusal, Command, Done, MOST_OF_SECURITY, MOST_ORDERS, Note, Order};
 
 /// The order book of one product with its orders in one vector, in the order of the book: each command looks at all of them.
 ///

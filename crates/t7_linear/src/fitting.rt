@@ -3,8 +3,9 @@
 ghost use Rattle.std.specs.Prelude.{◌≡◌, ◌==◌, nat_lt, if◌then◌else◌};
 ghost use Rattle.t7_mbook.specs.Misfits.{is_listed, security_test, kept_test, present_test, full_test, and_then, misfit_of};
 
-use crate::shown::{MOST_ORDERS, Shown};
+use crate::shown::Shown;
 use t7_base::{Price, Public, Qty, Resting, SecurityId, Side, Stamp};
+use t7_book::MOST_ORDERS;
 use t7_mbook::Misfit;
 
 /// Whether the security is the product's.

@@ -12,10 +12,7 @@ use std::alloc::{AllocError, Global};
 use std::marker::Model;
 use t7_base::{OrderId, Resting, SecurityId, SessionId};
 use t7_book::priority::same_name;
-use t7_book::{Order, Trade};
-
-/// How many orders a book holds at most.
-pub(crate) const MOST_ORDERS: usize = 20_000;
+use t7_book::{MOST_ORDERS, Order, Trade};
 
 /// The resting orders of a book. Room for all that it may hold is taken at the beginning.
 #[derive(Debug, Drop)]
@@ -58,7 +55,6 @@ impl Orders {
     }
 
     /// How many orders are in a security.
-    #[tactic(auto, using(t7_book::proofs::ListLemmas::length_filter_le))]
     pub(crate) fn count_in(&self, security: SecurityId) -> usize
         ensures value { result ≡ length (filter (is_in security) self.now) }
         ensures within { result ≤ 20_000 }
@@ -70,7 +66,6 @@ impl Orders {
     }
 
     /// How many orders a session has in a security.
-    #[tactic(auto, using(t7_book::proofs::ListLemmas::length_filter_le))]
     pub(crate) fn count_of(&self, session: SessionId, security: SecurityId) -> usize
         ensures value { result ≡ length (filter (is_of session security) self.now) }
         ensures within { result ≤ 20_000 }
@@ -82,7 +77,6 @@ impl Orders {
     }
 
     /// The orders of a session in a security, in the order of the book.
-    #[tactic(auto, using(t7_book::proofs::ListLemmas::length_filter_le))]
     pub(crate) fn orders_of(
         &self,
         session: SessionId,
@@ -125,7 +119,6 @@ impl Orders {
     }
 
     /// Takes the order of this name out.
-    #[tactic(auto, using(t7_book::proofs::ListLemmas::length_filter_le))]
     pub(crate) fn remove(&mut self, x: &Resting)
         ensures { self.new ≡ without x.now self.old }
     {
@@ -133,7 +126,6 @@ impl Orders {
     }
 
     /// Takes the orders of a security out.
-    #[tactic(auto, using(t7_book::proofs::ListLemmas::length_filter_le))]
     pub(crate) fn remove_security(&mut self, security: SecurityId)
         ensures { self.new ≡ filter (λ y. not (is_in security y)) self.old }
     {
@@ -180,7 +172,6 @@ fn renew_in(orders: &mut Vec<Order>, x: &Order)
 }
 
 /// The trades of an incoming order with the orders that it crosses, in the order of the book.
-#[tactic(auto, using(t7_book::proofs::TradeLemmas::traded_taken))]
 fn trades_of(alloc: Global, x: &Resting, orders: &[Order]) -> Result<Vec<Trade>, AllocError>
     ensures trades { IfOk result (λ found. found.items ≡ trades x.now orders.now) }
     ensures within { IfOk result (λ found. traded found.items ≤ x.now.qty) }

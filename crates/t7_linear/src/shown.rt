@@ -10,10 +10,8 @@ use crate::priority::goes_before;
 use std::alloc::{AllocError, Global};
 use std::marker::Model;
 use t7_base::{Resting, SecurityId, Side, Stamp};
+use t7_book::MOST_ORDERS;
 use t7_book::priority::{has_name, same_name};
-
-/// How many orders a book holds at most.
-pub(crate) const MOST_ORDERS: usize = 20_000;
 
 /// The orders of a book as the feed shows them. Room for all that it may hold is taken at the beginning, so that no other
 /// call takes memory.
@@ -71,7 +69,6 @@ impl Shown {
     }
 
     /// Takes the order of this name out. Where it was there, there is room for another.
-    #[tactic(auto, using(t7_book::proofs::ListLemmas::length_filter_le))]
     pub(crate) fn remove(&mut self, security: SecurityId, side: Side, stamp: Stamp)
         ensures items { self.new ≡ without_name security side stamp self.old }
         ensures room { IsSome (named security side stamp self.old) → length self.new < 20_000 }
@@ -80,7 +77,6 @@ impl Shown {
     }
 
     /// Takes the orders of a security out.
-    #[tactic(auto, using(t7_book::proofs::ListLemmas::length_filter_le))]
     pub(crate) fn remove_security(&mut self, security: SecurityId)
         ensures { self.new ≡ filter (λ y. not (int_eq y.security security)) self.old }
     {

@@ -41,7 +41,6 @@ fn is_used_up(t: &Trade) -> bool
 }
 
 /// Carries out a trade on the resting order.
-#[tactic(auto, using(t7_book::proofs::ListLemmas::length_filter_le, t7_book::proofs::Lists::length_renewed))]
 fn carry_out_one(orders: &mut Orders, t: &Trade)
     ensures items { orders.new ≡ after_trade t.now orders.old }
     ensures fewer { length orders.new ≤ length orders.old }

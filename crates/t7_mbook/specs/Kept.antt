@@ -22,7 +22,7 @@ shown_option None = None
 shown_option (Some k) = Some k.order
 
 -- what contracts see of the orders: the product's securities, and the list in the order of the book
-pub record Listed : Type 0 where
+pub record RestingList : Type 0 where
   pub securities : List ℤ
   pub list : List Resting
 

@@ -18,9 +18,6 @@ use t7_base::{Price, Qty, Resting, SecurityId, Side, Stamp};
 use t7_book::Sides;
 use t7_levels::{Shelves, Walk};
 
-/// How many orders a book holds at most.
-pub(crate) const MOST_ORDERS: usize = 20_000;
-
 /// The orders of a book as the feed shows them. Room for all that it may hold is taken at the beginning, so that no other
 /// call takes memory.
 #[derive(Drop)]
@@ -30,9 +27,9 @@ pub(crate) struct Orders {
 }
 
 impl Model for Orders {
-    ghost use Rattle.t7_mbook.specs.Kept.{Listed, shown_orders, AreKept};
+    ghost use Rattle.t7_mbook.specs.Kept.{RestingList, shown_orders, AreKept};
 
-    ghost Value = { Listed };
+    ghost Value = { RestingList };
 
     ghost view = { λ o. record { securities = o.sides; list = shown_orders o.shelves.list } };
 

@@ -4,6 +4,9 @@ use Rattle.t7_book.specs.Orders.{same_name, without}
 use Rattle.t7_book.specs.Kept.{MayEnter}
 use Rattle.t7_book.proofs.Kepts.{enters_again}
 use Rattle.t7_book.proofs.TradeLemmas.{length_without}
+use Rattle.std.proofs.Common.{rules}
+use Rattle.t7_book.proofs.StepLemmas.{messages_change, list_after_change}
+use Rattle.t7_book.proofs.TradeLemmas.{trades_without}
 use Rattle.t7_book.proofs.arrival.change.Goals as goal
 
 pub admit-requires-clause-enters : goal.admit-requires-clause-enters
@@ -17,3 +20,15 @@ admit-requires-clause-enters c =
     subst (λ (l : List Order). MayEnter (record { securities = new.securities; list = l }) x) (sym c.remove.ensures.list)
     (subst (λ (s : List ℤ). MayEnter (record { securities = s; list = without y.rest o.list }) x) (sym c.remove.ensures.securities)
     (enters_again o y x c.apart.ensures.stamps c.apart.ensures.ids c.requires.stands c.requires.id c.requires.listed room c.requires.new_stamp))
+
+pub admit-requires-clause-made : goal.admit-requires-clause-made
+admit-requires-clause-made c = search (rules, messages_change, list_after_change, trades_without)
+
+pub returns-clause-orders : goal.returns-clause-orders
+returns-clause-orders c = search (rules, messages_change, list_after_change, trades_without)
+
+pub returns-clause-out : goal.returns-clause-out
+returns-clause-out c = search (rules, messages_change, list_after_change, trades_without)
+
+pub returns-clause-notes : goal.returns-clause-notes
+returns-clause-notes c = search (rules, messages_change, list_after_change, trades_without)

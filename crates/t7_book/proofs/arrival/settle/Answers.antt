@@ -5,6 +5,8 @@ use Rattle.t7_book.specs.Orders.{with_left}
 use Rattle.t7_book.specs.Trades.{after_trades, trades}
 use Rattle.t7_book.specs.Kept.{MayEnter}
 use Rattle.t7_book.proofs.Kepts.{enters_after}
+use Rattle.std.proofs.Common.{rules}
+use Rattle.t7_book.proofs.StepLemmas.{settled_some, settled_none}
 use Rattle.t7_book.proofs.arrival.settle.Goals as goal
 
 pub place-requires : goal.place-requires
@@ -18,3 +20,9 @@ place-requires c =
     (subst (λ (l : List Order). MayEnter (record { securities = new.securities; list = l }) (with_left x left)) (sym after)
     (subst (λ (s : List ℤ). MayEnter (record { securities = s; list = after_trades (trades x.rest o.list) o.list }) (with_left x left)) (sym c.carry_out.ensures.securities)
     (enters_after o x left c.apart.ensures.stamps c.requires.enters)))
+
+pub returns-in-Some-clause-list : goal.returns-in-Some-clause-list
+returns-in-Some-clause-list c = search (rules, settled_some, settled_none)
+
+pub returns-in_default-clause-list : goal.returns-in_default-clause-list
+returns-in_default-clause-list c = search (rules, settled_some, settled_none)

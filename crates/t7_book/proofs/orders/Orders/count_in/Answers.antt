@@ -4,7 +4,7 @@ use Rattle.std.proofs.lemmas.List.{length-map}
 use Rattle.t7_book.specs.declared.kept.Kept.{Kept}
 use Rattle.t7_book.specs.Orders.{is_in, rank_of}
 use Rattle.t7_book.specs.Numbers.{is_listed}
-use Rattle.t7_book.specs.Kept.{Listed, count_at, orders_in}
+use Rattle.t7_book.specs.Kept.{OrderList, count_at, orders_in}
 use Rattle.t7_book.proofs.Counting.{few_counted, none_count, rank_count}
 use Rattle.t7_book.proofs.Kepts.{listed_each}
 use Rattle.t7_book.proofs.Numbered.{listed_is, rank_fits, unlisted_is}
@@ -15,7 +15,7 @@ returns-in-None-clause-value c =
     let S = c.self.inside.sides in
     let list = c.self.inside.shelves.list in
     let unlisted = unlisted_is (is_listed S c.args.security) (rank_of S c.args.security) (sym c.rank.ensures ∙ c.in-None.is) in
-    sym (none_count S c.args.security (orders_in list) unlisted (listed_each S list c.self.invariant.numbered)) ∙ ap (λ (l : Listed). length (filter (is_in c.args.security) l.list)) c.self.view_is
+    sym (none_count S c.args.security (orders_in list) unlisted (listed_each S list c.self.invariant.numbered)) ∙ ap (λ (l : OrderList). length (filter (is_in c.args.security) l.list)) c.self.view_is
 
 pub counted-requires : goal.counted-requires
 counted-requires c =
@@ -33,7 +33,7 @@ returns-in-Some-clause-value c =
     ∙ c.self.invariant.counted c.in-Some.rank within
     ∙ ap (λ (i : ℕ). count_at S i (orders_in list)) e.1
     ∙ rank_count S c.args.security (orders_in list) e.0 (listed_each S list c.self.invariant.numbered)
-    ∙ ap (λ (l : Listed). length (filter (is_in c.args.security) l.list)) c.self.view_is
+    ∙ ap (λ (l : OrderList). length (filter (is_in c.args.security) l.list)) c.self.view_is
 
 pub returns-in-Some-clause-within : goal.returns-in-Some-clause-within
 returns-in-Some-clause-within c =

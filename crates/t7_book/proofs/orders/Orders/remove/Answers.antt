@@ -6,7 +6,7 @@ use Rattle.t7_book.specs.declared.order.Order.{Order}
 use Rattle.t7_book.specs.Orders.{same_name, without}
 use Rattle.t7_book.specs.Laws.{Distinct, IsInOrder}
 use Rattle.t7_book.specs.Numbers.{is_listed}
-use Rattle.t7_book.specs.Kept.{IsNumbered, Listed, Stands, orders_in}
+use Rattle.t7_book.specs.Kept.{IsNumbered, OrderList, Stands, orders_in}
 use Rattle.t7_book.proofs.InOrder.{in_order_filter}
 use Rattle.t7_book.proofs.Lists.{distinct_filter, each_at}
 use Rattle.t7_book.proofs.Numbered.{each_kept, fewer_kept, filter_shown, is_named}
@@ -23,7 +23,7 @@ listed_rank-rank-requires c =
     let S = c.self.inside.sides in
     let list = c.self.inside.shelves.list in
     let y = c.args.x.now in
-    let at = in_list y (orders_in list) (subst (λ (l : Listed). Stands l.list y) (sym c.self.view_is) c.requires) in
+    let at = in_list y (orders_in list) (subst (λ (l : OrderList). Stands l.list y) (sym c.self.view_is) c.requires) in
     each_at (λ z. is_listed S z.rest.security ≡ true) y (orders_in list) (listed_each S list c.self.invariant.numbered) at
 
 pub count_down-requires-clause-within : goal.count_down-requires-clause-within
@@ -31,7 +31,7 @@ count_down-requires-clause-within c =
     let S = c.self.inside.sides in
     let list = c.self.inside.shelves.list in
     let y = c.args.x.now in
-    let at = in_list y (orders_in list) (subst (λ (l : Listed). Stands l.list y) (sym c.self.view_is) c.requires) in
+    let at = in_list y (orders_in list) (subst (λ (l : OrderList). Stands l.list y) (sym c.self.view_is) c.requires) in
     let listed = each_at (λ z. is_listed S z.rest.security ≡ true) y (orders_in list) (listed_each S list c.self.invariant.numbered) at in
     omega (arith, c.listed_rank-rank.ensures, rank_fits S y.rest.security listed, c.self.invariant.places)
 
@@ -40,7 +40,7 @@ count_down-requires-clause-some c =
     let S = c.self.inside.sides in
     let list = c.self.inside.shelves.list in
     let y = c.args.x.now in
-    let at = in_list y (orders_in list) (subst (λ (l : Listed). Stands l.list y) (sym c.self.view_is) c.requires) in
+    let at = in_list y (orders_in list) (subst (λ (l : OrderList). Stands l.list y) (sym c.self.view_is) c.requires) in
     let listed = each_at (λ z. is_listed S z.rest.security ≡ true) y (orders_in list) (listed_each S list c.self.invariant.numbered) at in
     let within : c.listed_rank-rank.result < length S = omega (arith, c.listed_rank-rank.ensures, rank_fits S y.rest.security listed) in
     some_counted S c.self.inside.counts.items (orders_in list) y c.listed_rank-rank.result c.self.invariant.counted c.self.invariant.distinct at c.listed_rank-rank.ensures within
@@ -50,7 +50,7 @@ invariant_of-self c =
     let S = c.self.inside.sides in
     let list = c.self.inside.shelves.list in
     let y = c.args.x.now in
-    let at = in_list y (orders_in list) (subst (λ (l : Listed). Stands l.list y) (sym c.self.view_is) c.requires) in
+    let at = in_list y (orders_in list) (subst (λ (l : OrderList). Stands l.list y) (sym c.self.view_is) c.requires) in
     let alike = kept_alike y list c.self.invariant.distinct c.once.ensures at in
     let now = c.remove.ensures.list ∙ ap (λ (n : ℕ). filter (λ (k : Kept). not (is_named n k)) list) c.name_of.ensures in
     let shown = ap orders_in now ∙ filter_shown (is_named y.id) (λ z. same_name y.rest z.rest) list alike in
@@ -70,9 +70,9 @@ pub returns-clause-list : goal.returns-clause-list
 returns-clause-list c =
     let list = c.self.inside.shelves.list in
     let y = c.args.x.now in
-    let at = in_list y (orders_in list) (subst (λ (l : Listed). Stands l.list y) (sym c.self.view_is) c.requires) in
+    let at = in_list y (orders_in list) (subst (λ (l : OrderList). Stands l.list y) (sym c.self.view_is) c.requires) in
     let alike = kept_alike y list c.self.invariant.distinct c.once.ensures at in
     let now = c.remove.ensures.list ∙ ap (λ (n : ℕ). filter (λ (k : Kept). not (is_named n k)) list) c.name_of.ensures in
     ap orders_in now
     ∙ filter_shown (is_named y.id) (λ z. same_name y.rest z.rest) list alike
-    ∙ ap (λ (l : Listed). without y.rest l.list) c.self.view_is
+    ∙ ap (λ (l : OrderList). without y.rest l.list) c.self.view_is

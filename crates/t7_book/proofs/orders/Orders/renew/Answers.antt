@@ -9,7 +9,7 @@ use Rattle.t7_book.specs.declared.kept.Kept.{Kept}
 use Rattle.t7_book.specs.Orders.{renewed, same_name}
 use Rattle.t7_book.specs.Laws.{Distinct, IsInOrder}
 use Rattle.t7_book.specs.Numbers.{is_listed}
-use Rattle.t7_book.specs.Kept.{IsNumbered, Listed, Stands, orders_in}
+use Rattle.t7_book.specs.Kept.{IsNumbered, OrderList, Stands, orders_in}
 use Rattle.t7_book.proofs.InOrder.{in_order_renewed}
 use Rattle.t7_book.proofs.Lists.{distinct_renewed, each_at, only_named}
 use Rattle.t7_book.proofs.Numbered.{named}
@@ -27,7 +27,7 @@ listed_number-number-requires c =
     let S = c.self.inside.sides in
     let list = c.self.inside.shelves.list in
     let r = c.requires in
-    let at = in_list r.kept (orders_in list) (subst (λ (l : Listed). Stands l.list r.kept) (sym c.self.view_is) r.stands) in
+    let at = in_list r.kept (orders_in list) (subst (λ (l : OrderList). Stands l.list r.kept) (sym c.self.view_is) r.stands) in
     ap (λ (s : Resting). is_listed S s.security) r.same_rest ∙ each_at (λ y. is_listed S y.rest.security ≡ true) r.kept (orders_in list) (listed_each S list c.self.invariant.numbered) at
 
 pub renew-requires : goal.renew-requires
@@ -36,7 +36,7 @@ renew-requires c =
     let list = c.self.inside.shelves.list in
     let x = c.args.x.now in
     let r = c.requires in
-    let at = in_list r.kept (orders_in list) (subst (λ (l : Listed). Stands l.list r.kept) (sym c.self.view_is) r.stands) in
+    let at = in_list r.kept (orders_in list) (subst (λ (l : OrderList). Stands l.list r.kept) (sym c.self.view_is) r.stands) in
     let listed : is_listed S x.rest.security ≡ true = ap (λ (s : Resting). is_listed S s.security) r.same_rest ∙ each_at (λ y. is_listed S y.rest.security ≡ true) r.kept (orders_in list) (listed_each S list c.self.invariant.numbered) at in
     let v : Kept = record { number = c.listed_number-number.result; order = x } in
     let at_v : IsNumbered S v = record { listed = listed; number = c.listed_number-number.ensures } in
@@ -49,7 +49,7 @@ invariant_of-self c =
     let list = c.self.inside.shelves.list in
     let x = c.args.x.now in
     let r = c.requires in
-    let at = in_list r.kept (orders_in list) (subst (λ (l : Listed). Stands l.list r.kept) (sym c.self.view_is) r.stands) in
+    let at = in_list r.kept (orders_in list) (subst (λ (l : OrderList). Stands l.list r.kept) (sym c.self.view_is) r.stands) in
     let listed : is_listed S x.rest.security ≡ true = ap (λ (s : Resting). is_listed S s.security) r.same_rest ∙ each_at (λ y. is_listed S y.rest.security ≡ true) r.kept (orders_in list) (listed_each S list c.self.invariant.numbered) at in
     let v : Kept = record { number = c.listed_number-number.result; order = x } in
     let at_v : IsNumbered S v = record { listed = listed; number = c.listed_number-number.ensures } in
@@ -74,9 +74,9 @@ returns-clause-list c =
     let list = c.self.inside.shelves.list in
     let x = c.args.x.now in
     let r = c.requires in
-    let at = in_list r.kept (orders_in list) (subst (λ (l : Listed). Stands l.list r.kept) (sym c.self.view_is) r.stands) in
+    let at = in_list r.kept (orders_in list) (subst (λ (l : OrderList). Stands l.list r.kept) (sym c.self.view_is) r.stands) in
     let v : Kept = record { number = c.listed_number-number.result; order = x } in
     let alike = renewed_alike x r.kept list r.same_id r.same_rest (kept_alike r.kept list c.self.invariant.distinct c.once.ensures at) in
     ap orders_in c.renew.ensures.list
     ∙ renewed_shown v list alike
-    ∙ ap (λ (l : Listed). renewed x l.list) c.self.view_is
+    ∙ ap (λ (l : OrderList). renewed x l.list) c.self.view_is
