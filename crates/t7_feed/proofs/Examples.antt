@@ -7,7 +7,7 @@ use Rattle.t7_feed.specs.Arrivals.{Arrival, Came, Packet, PacketWindow, Told, fi
 use Rattle.t7_feed.specs.Cycles.{cycle_of}
 use Rattle.t7_feed.specs.Examples.{StandsAt, again_as_the_next, ahead_of_the_book, filled_in_the_window, found_on_the_other, in_order, lost_on_one_line, message, missing_by_a_heartbeat, next_outside_the_window, nothing_missing, outside_before_the_snapshot, product, sections, snapshot}
 use Rattle.t7_feed.specs.Reached.{Reaches}
-use Rattle.t7_feed.specs.Whole.{Held, Offers}
+use Rattle.t7_feed.specs.Whole.{Buffered, Offers}
 use Rattle.t7_feed.proofs.Growth.{split_last}
 
 -- whether a message is among what came
@@ -41,7 +41,7 @@ each_more n j Has each here k above upto = elim (split_last k j upto) [ inl belo
 
 -- a message on the way, over what has come with it
 abbrev Next : List Arrival → ℕ → ℕ → Type 0
-Next before k i = Held product (message k ∷ before) i ⊎ (i ≡ k)
+Next before k i = Buffered product (message k ∷ before) i ⊎ (i ≡ k)
 
 -- message k is the first of what follows
 next_itself : (before : List Arrival) (k : ℕ) → Next before k k
@@ -63,7 +63,7 @@ moves before k n j h from each stop = (Some n, h, (j, refl, record { from = from
 
 -- the whole snapshot comes, and the messages up to j behind it are held
 begins : (before : List Arrival) (m j : ℕ) (orders : List ℕ) → Reaches product before None → first before 1 ≡ None → joined (cycle_of m (sections orders) ∷ []) ≡ cycle_of m (sections orders) →
-    PacketWindow product (snapshot m orders ∷ before) 1 → m ≤ j → EachUpTo m j (Held product (snapshot m orders ∷ before)) → (Held product (snapshot m orders ∷ before) (j + 1) → ⊥) →
+    PacketWindow product (snapshot m orders ∷ before) 1 → m ≤ j → EachUpTo m j (Buffered product (snapshot m orders ∷ before)) → (Buffered product (snapshot m orders ∷ before) (j + 1) → ⊥) →
     Reaches product (snapshot m orders ∷ before) (Some j)
 begins before m j orders h none spelled near from each stop =
     let offers : Offers product (snapshot m orders ∷ before) 1 None m (sections orders) = record {
@@ -84,12 +84,12 @@ begins before m j orders h none spelled near from each stop =
     } in
     (None, h, inl (m, j, sections orders, offers, refl, record { from = from; each = each; stop = stop }))
 
-held_not : (came : List Arrival) (i : ℕ) → is_among came i ≡ false → Held product came i → ⊥
+held_not : (came : List Arrival) (i : ℕ) → is_among came i ≡ false → Buffered product came i → ⊥
 held_not came i among held = not_there came i among held.0
 
 -- a snapshot at 0 alone
 at_0 : Reaches product (in_order (snapshot 0 [] ∷ [])) (Some 0)
-at_0 = begins [] 0 0 [] refl refl refl (omega arith) (omega arith) (each_none 0 (Held product (snapshot 0 [] ∷ []))) (held_not (snapshot 0 [] ∷ []) 1 refl)
+at_0 = begins [] 0 0 [] refl refl refl (omega arith) (omega arith) (each_none 0 (Buffered product (snapshot 0 [] ∷ []))) (held_not (snapshot 0 [] ∷ []) 1 refl)
 
 -- a message that isn't the next, while the next isn't held
 ahead : (before : List Arrival) (k n : ℕ) → Reaches product before (Some n) → is_among (message k ∷ before) (n + 1) ≡ false → (n + 1 ≡ k → ⊥) → Reaches product (message k ∷ before) (Some n)
@@ -134,7 +134,7 @@ abbrev two : List Arrival
 two = in_order (snapshot 2 (1 ∷ 2 ∷ []) ∷ [])
 
 at_2 : Reaches product two (Some 2)
-at_2 = begins [] 2 2 (1 ∷ 2 ∷ []) refl refl refl (omega arith) (omega arith) (each_none 2 (Held product two)) (held_not two 3 refl)
+at_2 = begins [] 2 2 (1 ∷ 2 ∷ []) refl refl refl (omega arith) (omega arith) (each_none 2 (Buffered product two)) (held_not two 3 refl)
 
 abbrev two_6 : List Arrival
 two_6 = message 6 ∷ two
@@ -191,7 +191,7 @@ abbrev late_two : List Arrival
 late_two = snapshot 2 (1 ∷ 2 ∷ []) ∷ late
 
 outside_reaches : Reaches product late_two (Some 2)
-outside_reaches = begins late 2 2 (1 ∷ 2 ∷ []) late_waits refl refl (omega arith) (omega arith) (each_none 2 (Held product late_two)) (λ held. (let near = held.1 in omega arith))
+outside_reaches = begins late 2 2 (1 ∷ 2 ∷ []) late_waits refl refl (omega arith) (omega arith) (each_none 2 (Buffered product late_two)) (λ held. (let near = held.1 in omega arith))
 
 pub outside_stands : StandsAt outside_before_the_snapshot 2 7
 outside_stands = record { reached = outside_reaches; known = refl }

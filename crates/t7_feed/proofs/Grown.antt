@@ -31,12 +31,12 @@ known_grows (Told (Beat last)) before = omega arith
 known_grows (Packet number snaps) before = omega arith
 
 -- what is reached before the last arrival, and that it doesn't fall with it
-pub record Step (listing : Listing) (before : List Arrival) (after : Option ℕ) : Type 0 where
+pub record Advance (listing : Listing) (before : List Arrival) (after : Option ℕ) : Type 0 where
   pub last : Option ℕ
   pub reached : Reaches listing before last
   pub rises : (n : ℕ) → IsFrom n last → IsFrom n after
 
-pub step_of : (listing : Listing) (arrival : Arrival) (before : List Arrival) (after : Option ℕ) → Reaches listing (arrival ∷ before) after → Step listing before after
+pub step_of : (listing : Listing) (arrival : Arrival) (before : List Arrival) (after : Option ℕ) → Reaches listing (arrival ∷ before) after → Advance listing before after
 step_of listing (Told (Message k said)) before after h = record { last = h.0; reached = h.1; rises = λ n from. by_message_rises listing (Told (Message k said) ∷ before) k h.0 after n h.2 from }
 step_of listing (Told (Beat named)) before after h = record { last = after; reached = h; rises = λ n from. from }
 step_of listing (Packet i snaps) before after h = record { last = h.0; reached = h.1; rises = λ n from. by_packet_rises listing (Packet i snaps ∷ before) i h.0 after n h.2 from }

@@ -10,7 +10,7 @@ use Rattle.t7_feed.specs.Arrivals.{Arrival, Delivery, EachMoment, EachPrefix, Pa
 use Rattle.t7_feed.specs.Cycles.{Run, Section}
 use Rattle.t7_feed.specs.Reached.{Reaches, ReachesByMessage, ReachesByPacket}
 use Rattle.t7_feed.specs.Report.{IsFrom, IsNeverBelow, ReachesAtMost}
-use Rattle.t7_feed.specs.Whole.{Farthest, Held, IsBelow, Offers, Whole}
+use Rattle.t7_feed.specs.Whole.{Farthest, Buffered, IsBelow, Offers, Whole}
 use Rattle.t7_base.specs.declared.ids.Channel.{Channel}
 use Rattle.t7_base.specs.declared.ids.Channel.TheVariants as channel
 use Rattle.t7_layout.specs.Layouts.{Layout}
@@ -36,14 +36,14 @@ pub by_message_one : (listing : Listing) (came : List Arrival) (k : ℕ) (before
     ReachesByMessage listing came k before after → ReachesByMessage listing came k before after' → after ≡ after'
 by_message_one listing came k None after after' r r' = r ∙ sym r'
 by_message_one listing came k (Some n) after after' r r' =
-    let same = farthest_one (λ i. Held listing came i ⊎ (i ≡ k)) r.2 r'.2 in r.1 ∙ ap (λ j. Some j) same ∙ sym r'.1
+    let same = farthest_one (λ i. Buffered listing came i ⊎ (i ≡ k)) r.2 r'.2 in r.1 ∙ ap (λ j. Some j) same ∙ sym r'.1
 
 pub by_packet_one : (listing : Listing) (came : List Arrival) (i : ℕ) (before after after' : Option ℕ) →
     ReachesByPacket listing came i before after → ReachesByPacket listing came i before after' → after ≡ after'
 by_packet_one listing came i before after after' (inl r) (inl r') =
     let one = offers_one r.3 r'.3 in
-    let f : Farthest r'.0 r.1 (Held listing came) = rw (← one.number) r.5 in
-    let same = farthest_one (Held listing came) f r'.5 in r.4 ∙ ap (λ j. Some j) same ∙ sym r'.4
+    let f : Farthest r'.0 r.1 (Buffered listing came) = rw (← one.number) r.5 in
+    let same = farthest_one (Buffered listing came) f r'.5 in r.4 ∙ ap (λ j. Some j) same ∙ sym r'.4
 by_packet_one listing came i before after after' (inl r) (inr r') = absurd (r'.1 r.0 r.2 r.3)
 by_packet_one listing came i before after after' (inr r) (inl r') = absurd (r.1 r'.0 r'.2 r'.3)
 by_packet_one listing came i before after after' (inr r) (inr r') = r.0 ∙ sym r'.0
@@ -81,13 +81,13 @@ pub nothing_whole : {securities : List ℤ} {m p q : ℕ} {parts : List Section}
 nothing_whole {securities} {m} {p} r = (let s = stand_begins (first []) p r.datagrams r.spells.begins r.stand in cc s.1)
 
 -- the number after it isn't held
-pub message_stops : (listing : Listing) (came : List Arrival) (k n : ℕ) (before : Option ℕ) → ReachesByMessage listing came k before (Some n) → Held listing came (n + 1) → ⊥
+pub message_stops : (listing : Listing) (came : List Arrival) (k n : ℕ) (before : Option ℕ) → ReachesByMessage listing came k before (Some n) → Buffered listing came (n + 1) → ⊥
 message_stops listing came k n None r held = cc r
 message_stops listing came k n (Some b) r held =
     let same : n ≡ r.0 = some_one r.1 in
     r.2.stop (inl (rw same at held))
 
-pub reaches_stops : (listing : Listing) (came : List Arrival) (n : ℕ) → Reaches listing came (Some n) → Held listing came (n + 1) → ⊥
+pub reaches_stops : (listing : Listing) (came : List Arrival) (n : ℕ) → Reaches listing came (Some n) → Buffered listing came (n + 1) → ⊥
 reaches_stops listing [] n h held = held.0
 reaches_stops listing (Told (Message k said) ∷ before) n h held = message_stops listing (Told (Message k said) ∷ before) k n h.0 h.2 held
 reaches_stops listing (Told (Beat last) ∷ before) n h held = reaches_stops listing before n h held

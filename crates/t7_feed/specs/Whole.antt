@@ -19,8 +19,8 @@ pub record Supported (listing : Listing) (came : List Arrival) (n : ℕ) : Type 
   pub each : (k : ℕ) → m < k → k ≤ n → Came came k
 
 -- message k is held: it came, and its number is still in the window
-abbrev pub Held : Listing → List Arrival → ℕ → Type 0
-Held listing came k = Came came k × Window listing came k
+abbrev pub Buffered : Listing → List Arrival → ℕ → Type 0
+Buffered listing came k = Came came k × Window listing came k
 
 -- j is the greatest number from n on up to which each number above n has what is asked
 pub record Farthest (n j : ℕ) (Has : ℕ → Type 0) : Type 0 where

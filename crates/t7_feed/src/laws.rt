@@ -1,4 +1,4 @@
-// What always holds of what came.
+//! What always holds of what came.
 
 ghost use Rattle.std.specs.Prelude.{◌≡◌, ◌≤◌, ℕ, ℤ, List, [], ◌∷◌, Option, Some};
 ghost use Rattle.t7_base.specs.Listing.{Listing};

@@ -9,11 +9,11 @@ use Rattle.t7_lines.specs.Puts.{Puts, TakesOff}
 use Rattle.t7_lines.specs.declared.put.Put.TheVariants.{New, Old, Outside}
 use Rattle.t7_lines.specs.Ring.{IsPlaced, entries, said_at}
 
-abbrev pub Place : Type 0
-Place = Option (ℕ × Public)
+abbrev pub Entry : Type 0
+Entry = Option (ℕ × Public)
 
-abbrev pub no_place : Place
-no_place = None
+abbrev pub no_entry : Entry
+no_entry = None
 
 -- a number is in the window below the highest, or not
 pub near_tells : (window highest number : ℕ) → ((nat_lt highest (number + window) ≡ true) × (highest < number + window))
@@ -57,7 +57,7 @@ pub said_other : (kept : ℕ × Public) (k : ℕ) → (kept.0 ≡ k → ⊥) →
 said_other kept k other = elim (eqb_tells kept.0 k) [ inl e ↦ absurd (other e.1) | inr o ↦ rw o.0 refl ]
 
 -- a number outside the window isn't kept
-pub kept_far : (window highest k : ℕ) (places : List Place) → k + window ≤ highest → kept_at (entries window highest places) k ≡ None
+pub kept_far : (window highest k : ℕ) (places : List Entry) → k + window ≤ highest → kept_at (entries window highest places) k ≡ None
 kept_far window highest k [] far = refl
 kept_far window highest k (None ∷ places) far = kept_far window highest k places far
 kept_far window highest k (Some kept ∷ places) far =
@@ -67,7 +67,7 @@ kept_far window highest k (Some kept ∷ places) far =
     ]
 
 -- a number whose place is before these isn't among them
-pub kept_before : (window highest top b k : ℕ) (places : List Place) → IsPlaced window top b places → k % window < b → kept_at (entries window highest places) k ≡ None
+pub kept_before : (window highest top b k : ℕ) (places : List Entry) → IsPlaced window top b places → k % window < b → kept_at (entries window highest places) k ≡ None
 kept_before window highest top b k [] placed before = refl
 kept_before window highest top b k (None ∷ places) placed before = kept_before window highest top (b + 1) k places placed (omega arith)
 kept_before window highest top b k (Some kept ∷ places) placed before =
@@ -80,7 +80,7 @@ kept_before window highest top b k (Some kept ∷ places) placed before =
     ]
 
 -- in the window, what is kept under a number is what stands at its place
-pub kept_here : (window highest top b k place : ℕ) (places : List Place) → IsPlaced window top b places → place < length places → k % window ≡ b + place → highest < k + window →
+pub kept_here : (window highest top b k place : ℕ) (places : List Entry) → IsPlaced window top b places → place < length places → k % window ≡ b + place → highest < k + window →
     kept_at (entries window highest places) k ≡ said_at (get_or places place None) k
 kept_here window highest top b k place [] placed below is near = absurd (omega arith)
 kept_here window highest top b k zero (None ∷ places) placed below is near = kept_before window highest top (b + 1) k places placed (omega arith)
@@ -108,13 +108,13 @@ kept_here window highest top b k (suc place) (Some kept ∷ places) placed below
     ]
 
 -- the highest number may rise
-pub placed_rises : (window low high b : ℕ) (places : List Place) → low ≤ high → IsPlaced window low b places → IsPlaced window high b places
+pub placed_rises : (window low high b : ℕ) (places : List Entry) → low ≤ high → IsPlaced window low b places → IsPlaced window high b places
 placed_rises window low high b [] up placed = tt
 placed_rises window low high b (None ∷ places) up placed = placed_rises window low high (b + 1) places up placed
 placed_rises window low high b (Some kept ∷ places) up placed = (placed.0, (let h = placed.1 in omega arith), placed_rises window low high (b + 1) places up placed.2)
 
 -- a place is free again
-pub placed_free : (window high b place : ℕ) (places : List Place) → IsPlaced window high b places → IsPlaced window high b (set places place None)
+pub placed_free : (window high b place : ℕ) (places : List Entry) → IsPlaced window high b places → IsPlaced window high b (set places place None)
 placed_free window high b place [] placed = tt
 placed_free window high b zero (None ∷ places) placed = placed
 placed_free window high b zero (Some kept ∷ places) placed = placed.2
@@ -122,7 +122,7 @@ placed_free window high b (suc place) (None ∷ places) placed = placed_free win
 placed_free window high b (suc place) (Some kept ∷ places) placed = (placed.0, placed.1, placed_free window high (b + 1) place places placed.2)
 
 -- a message comes to stand at its place
-pub placed_set : (window high b place : ℕ) (new : ℕ × Public) (places : List Place) → new.0 % window ≡ b + place → new.0 ≤ high → IsPlaced window high b places → IsPlaced window high b (set places place (Some new))
+pub placed_set : (window high b place : ℕ) (new : ℕ × Public) (places : List Entry) → new.0 % window ≡ b + place → new.0 ≤ high → IsPlaced window high b places → IsPlaced window high b (set places place (Some new))
 placed_set window high b place new [] is top placed = tt
 placed_set window high b zero new (None ∷ places) is top placed = (rw add-zero at is, top, placed)
 placed_set window high b zero new (Some kept ∷ places) is top placed = (rw add-zero at is, top, placed.2)
@@ -134,7 +134,7 @@ pub record Sits (window high place : ℕ) (kept : ℕ × Public) : Type 0 where
   pub is : kept.0 % window ≡ place
   pub top : kept.0 ≤ high
 
-pub sits_at : (window high b place : ℕ) (places : List Place) (kept : ℕ × Public) → IsPlaced window high b places → get_or places place None ≡ Some kept → Sits window high (b + place) kept
+pub sits_at : (window high b place : ℕ) (places : List Entry) (kept : ℕ × Public) → IsPlaced window high b places → get_or places place None ≡ Some kept → Sits window high (b + place) kept
 sits_at window high b place [] kept placed at = absurd (cc at)
 sits_at window high b zero (None ∷ places) kept placed at = absurd (cc at)
 sits_at window high b zero (Some here ∷ places) kept placed at =
@@ -146,7 +146,7 @@ sits_at window high b (suc place) (None ∷ places) kept placed at = let s = sit
 sits_at window high b (suc place) (Some here ∷ places) kept placed at = let s = sits_at window high (b + 1) place places kept placed.2 at in let e = s.is in record { is = omega arith; top = s.top }
 
 -- a number above the highest isn't kept
-pub kept_above : (window highest top b k : ℕ) (places : List Place) → IsPlaced window top b places → top < k → kept_at (entries window highest places) k ≡ None
+pub kept_above : (window highest top b k : ℕ) (places : List Entry) → IsPlaced window top b places → top < k → kept_at (entries window highest places) k ≡ None
 kept_above window highest top b k [] placed above = refl
 kept_above window highest top b k (None ∷ places) placed above = kept_above window highest top (b + 1) k places placed above
 kept_above window highest top b k (Some kept ∷ places) placed above =
@@ -158,7 +158,7 @@ kept_above window highest top b k (Some kept ∷ places) placed above =
     ]
 
 -- another number of the same place doesn't stand there, where both are in the window
-pub other_there : (window low high k i : ℕ) (found : Place) (places : List Place) → 0 < window → IsPlaced window low 0 places → k ≤ high → low ≤ high → i ≢ k → i % window ≡ k % window → high < i + window →
+pub other_there : (window low high k i : ℕ) (found : Entry) (places : List Entry) → 0 < window → IsPlaced window low 0 places → k ≤ high → low ≤ high → i ≢ k → i % window ≡ k % window → high < i + window →
     high < k + window → get_or places (k % window) None ≡ found → said_at found i ≡ None
 other_there window low high k i None places some placed top up other same near k_near at = refl
 other_there window low high k i (Some kept) places some placed top up other same near k_near at =
@@ -174,7 +174,7 @@ other_there window low high k i (Some kept) places some placed top up other same
     ]
 
 -- a ring before message k is put, and the highest number after it
-module _ (window low k : ℕ) (places : List Place) (full : length places ≡ window) (placed : IsPlaced window low 0 places) where
+module _ (window low k : ℕ) (places : List Entry) (full : length places ≡ window) (placed : IsPlaced window low 0 places) where
   abbrev pub high : ℕ
   high = max k low
 
@@ -245,7 +245,7 @@ module _ (window low k : ℕ) (places : List Place) (full : length places ≡ wi
     }
 
 -- a message is taken off its place
-module _ (window high k : ℕ) (message : Public) (places : List Place) (full : length places ≡ window) (placed : IsPlaced window high 0 places) (top : k ≤ high) (near : high < k + window)
+module _ (window high k : ℕ) (message : Public) (places : List Entry) (full : length places ≡ window) (placed : IsPlaced window high 0 places) (top : k ≤ high) (near : high < k + window)
     (at : said_at (get_or places (k % window) None) k ≡ Some message) where
   pub freed_placed : IsPlaced window high 0 (set places (k % window) None)
   freed_placed = placed_free window high 0 (k % window) places placed
@@ -288,23 +288,23 @@ pub is_missing : (found : Option Public) → is_some found ≡ false → found �
 is_missing None h = refl
 is_missing (Some said) h = absurd (cc h)
 
-pub get_or_any : (places : List Place) (i : ℕ) (d e : Place) → i < length places → get_or places i d ≡ get_or places i e
+pub get_or_any : (places : List Entry) (i : ℕ) (d e : Entry) → i < length places → get_or places i d ≡ get_or places i e
 get_or_any [] i d e below = absurd (omega arith)
 get_or_any (place ∷ places) zero d e below = refl
 get_or_any (place ∷ places) (suc i) d e below = get_or_any places i d e (omega arith)
 
 -- what an index reads, with any default
-pub read_at : (i : ℕ) (places : List Place) (read : Place) → i < length places → read ≡ get_or places i read → get_or places i None ≡ read
+pub read_at : (i : ℕ) (places : List Entry) (read : Entry) → i < length places → read ≡ get_or places i read → get_or places i None ≡ read
 read_at i places read below is = get_or_any places i None read below ∙ sym is
 
 -- what is kept under a number in the window is what its place was read for
-pub was_found : (window low k : ℕ) (places : List Place) → length places ≡ window → IsPlaced window low 0 places → (read : Place) (found : Option Public) → max k low < k + window →
+pub was_found : (window low k : ℕ) (places : List Entry) → length places ≡ window → IsPlaced window low 0 places → (read : Entry) (found : Option Public) → max k low < k + window →
     read ≡ get_or places (k % window) read → found ≡ said_at read k → kept_at (entries window low places) k ≡ found
 was_found window low k places full placed read found near is said =
     kept_was window low k places full placed k (omega arith) (omega arith) ∙ ap (λ x. said_at x k) (read_at (k % window) places read (omega arith) is) ∙ sym said
 
 -- there are at most as many entries as places
-pub few_entries : (window highest : ℕ) (places : List Place) → length (entries window highest places) ≤ length places
+pub few_entries : (window highest : ℕ) (places : List Entry) → length (entries window highest places) ≤ length places
 few_entries window highest [] = omega arith
 few_entries window highest (None ∷ places) = let h = few_entries window highest places in omega arith
 few_entries window highest (Some kept ∷ places) =
@@ -321,20 +321,20 @@ free_entries window highest zero = refl
 free_entries window highest (suc count) = free_entries window highest count
 
 -- as many free places as there are to be, where there were none
-abbrev pub no_places : List Place
+abbrev pub no_places : List Entry
 no_places = []
 
 pub take_none : (count : ℕ) → take count no_places ≡ no_places
 take_none zero = refl
 take_none (suc count) = refl
 
-pub free_ring : (count had : ℕ) (places old : List Place) → old ≡ [] → had ≡ 0 → places ≡ take count old ++ replicate (count - had) None → places ≡ replicate count None
+pub free_ring : (count had : ℕ) (places old : List Entry) → old ≡ [] → had ≡ 0 → places ≡ take count old ++ replicate (count - had) None → places ≡ replicate count None
 free_ring count had places old none zero_had is =
     let left : count - had ≡ count = omega arith in
     is ∙ ap (λ x. take count x ++ replicate (count - had) None) none ∙ ap (λ x. x ++ replicate (count - had) None) (take_none count) ∙ ap (λ x. replicate x None) left
 
 -- outside the window, or above the highest number, nothing is kept
-pub not_within : (window high k : ℕ) (places : List Place) → IsPlaced window high 0 places → ((k ≤ high) × (high < k + window) → ⊥) → kept_at (entries window high places) k ≡ None
+pub not_within : (window high k : ℕ) (places : List Entry) → IsPlaced window high 0 places → ((k ≤ high) × (high < k + window) → ⊥) → kept_at (entries window high places) k ≡ None
 not_within window high k places placed out =
     elim (below_or high k) [
       | inl above ↦ kept_above window high high 0 k places placed above
@@ -345,13 +345,13 @@ not_within window high k places placed out =
     ]
 
 -- in the window, what is kept is what its place was read for
-pub was_read : (window high k : ℕ) (places : List Place) → length places ≡ window → IsPlaced window high 0 places → (read : Place) → (k ≤ high) × (high < k + window) →
+pub was_read : (window high k : ℕ) (places : List Entry) → length places ≡ window → IsPlaced window high 0 places → (read : Entry) → (k ≤ high) × (high < k + window) →
     read ≡ get_or places (k % window) read → kept_at (entries window high places) k ≡ said_at read k
 was_read window high k places full placed read within is =
     let top = within.0 in let near = within.1 in
     kept_here window high high 0 k (k % window) places placed (omega arith) (omega arith) near ∙ ap (λ x. said_at x k) (read_at (k % window) places read (omega arith) is)
 
 -- what the place was read for is what stands there
-pub stands_read : (window k : ℕ) (places : List Place) → length places ≡ window → 0 < window → (read : Place) (message : Public) →
+pub stands_read : (window k : ℕ) (places : List Entry) → length places ≡ window → 0 < window → (read : Entry) (message : Public) →
     read ≡ get_or places (k % window) read → Some message ≡ said_at read k → said_at (get_or places (k % window) None) k ≡ Some message
 stands_read window k places full some read message is said = ap (λ x. said_at x k) (read_at (k % window) places read (omega arith) is) ∙ sym said

@@ -18,16 +18,16 @@ fn message(which: u32) -> Public {
 /// What is done, and what it answers: a message is put beside a base, under a number, as the message that `which` tells; the number
 /// after n is taken, and is one of those or isn't kept.
 #[derive(Clone, Copy)]
-enum Step {
+enum Case {
     Puts(Option<u32>, u32, u32, Put),
     Takes(u32, u32),
     Misses(u32),
 }
 
-use Step::{Misses, Puts, Takes};
+use Case::{Misses, Puts, Takes};
 
 /// The steps have their answers, one after another.
-fn check(rt: &impl Abort, alloc: Global, window: u32, steps: &[Step]) -> Result<(), Fail> {
+fn check(rt: &impl Abort, alloc: Global, window: u32, steps: &[Case]) -> Result<(), Fail> {
     let mut gap = GapBuffer::new(alloc, window)?;
     for step in steps {
         match *step {

@@ -13,7 +13,7 @@ use Rattle.t7_lines.specs.Gap.{kept_at}
 use Rattle.t7_book.specs.Acts.{Act}
 use Rattle.t7_feed.specs.Arrivals.{AreTerms, Arrival, Delivery, PacketWindow, Terms, Told, arrivals, channel_of, first, reading_of, taken, taken_where, told}
 use Rattle.t7_feed.specs.Sending.{AreActs, AreSent, Genuine, message_sent}
-use Rattle.t7_feed.specs.Whole.{Held, IsBelow}
+use Rattle.t7_feed.specs.Whole.{Buffered, IsBelow}
 use Rattle.t7_feed.proofs.Genuine.{genuine_sent}
 use Rattle.t7_feed.proofs.Reached.{reaches_one}
 use Rattle.t7_feed.proofs.Sayable.{acts_sayable}
@@ -35,7 +35,7 @@ sent_some : (listing : Listing) (acts : List Act) (k : ℕ) (said : Public) → 
 sent_some listing acts zero said is = absurd (cc is)
 sent_some listing acts (suc k) said is = omega arith
 
-none_kept : {terms : Terms} {member : Image} {came : List Arrival} (k : ℕ) → Holds terms member came → (Held terms.listing came k → ⊥) → kept_at member.kept k ≡ None
+none_kept : {terms : Terms} {member : Image} {came : List Arrival} (k : ℕ) → Holds terms member came → (Buffered terms.listing came k → ⊥) → kept_at member.kept k ≡ None
 none_kept {terms} {member} k holds unheld = by (kept_at member.kept k) refl
   where
     by : (o : Option Public) → kept_at member.kept k ≡ o → kept_at member.kept k ≡ None

@@ -11,7 +11,7 @@ use Rattle.t7_feed.specs.Arrivals.{Arrival, Came, CameAs, Packet, Terms, Told, W
 use Rattle.t7_feed.specs.Fitting.{stepped}
 use Rattle.t7_feed.specs.Reached.{ReachesByMessage}
 use Rattle.t7_feed.specs.Sending.{book_at, message_sent}
-use Rattle.t7_feed.specs.Whole.{Farthest, Held}
+use Rattle.t7_feed.specs.Whole.{Farthest, Buffered}
 use Rattle.t7_lines.specs.Gap.{kept_at}
 use Rattle.t7_lines.specs.Puts.{IsPut, Puts, TakesOff}
 use Rattle.t7_lines.specs.declared.put.Put.{Put}
@@ -34,7 +34,7 @@ pub Leaves-all : (k : ℕ) (kept : List (ℕ × Public)) → Leaves k kept kept
 Leaves-all k kept = record { from = λ i is at. at; above = λ i h. refl }
 
 -- what is kept came, and is held
-pub kept_held : {terms : Terms} {member : Image} {came : List Arrival} (k : ℕ) (said : Public) → Holds terms member came → kept_at member.kept k ≡ Some said → Held terms.listing came k
+pub kept_held : {terms : Terms} {member : Image} {came : List Arrival} (k : ℕ) (said : Public) → Holds terms member came → kept_at member.kept k ≡ Some said → Buffered terms.listing came k
 kept_held {terms} {member} {came} k said h at = let both = h.kept k said at in (CameAs-came came k said both.0, both.1)
 
 pub chain_holds : {terms : Terms} {old new : Image} {came : List Arrival} → Chains terms.listing old new → Holds terms old came → Holds terms new came × Rests new
@@ -73,10 +73,10 @@ fits_next {terms} {acts} {member} n said why laws is told misfit m =
 
 -- what a chain reaches
 module _ (terms : Terms) (acts : List Act) (laws : Laws terms acts) (came : List Arrival) (start : ℕ) (Has : ℕ → Type 0)
-    (held : (j : ℕ) → Held terms.listing came j → Has j)
-    (further : (n : ℕ) → Window terms.listing came (n + 1) → Has (n + 1 + 1) → Held terms.listing came (n + 1 + 1)) where
+    (held : (j : ℕ) → Buffered terms.listing came j → Has j)
+    (further : (n : ℕ) → Window terms.listing came (n + 1) → Has (n + 1 + 1) → Buffered terms.listing came (n + 1 + 1)) where
   pub chain_reaches : {old new : Image} (n : ℕ) → Chains terms.listing old new → old.base ≡ Some n → Holds terms old came → Mirrors terms acts old →
-      start ≤ n → ((k : ℕ) → start < k → k ≤ n → Has k) → (Has (n + 1) → Held terms.listing came (n + 1)) →
+      start ≤ n → ((k : ℕ) → start < k → k ≤ n → Has k) → (Has (n + 1) → Buffered terms.listing came (n + 1)) →
       Mirrors terms acts new × ((j : ℕ) × (new.base ≡ Some j) × Farthest start j Has)
   chain_reaches {old} n (ends rests) is h m from each last = (
     m,
@@ -137,9 +137,9 @@ hears_holds k said (others kept puts close rest) h = chain_holds rest (notes k s
 -- on what an exchange sent: the mirror stays, and the base is what is reached
 module _ (terms : Terms) (acts : List Act) (laws : Laws terms acts) (came : List Arrival) (k : ℕ) (said : Public) (told : message_sent terms.listing acts k ≡ Some said) where
   pub Has : ℕ → Type 0
-  Has i = Held terms.listing (Told (Message k said) ∷ came) i ⊎ (i ≡ k)
+  Has i = Buffered terms.listing (Told (Message k said) ∷ came) i ⊎ (i ≡ k)
 
-  pub further : (n : ℕ) → Window terms.listing (Told (Message k said) ∷ came) (n + 1) → Has (n + 1 + 1) → Held terms.listing (Told (Message k said) ∷ came) (n + 1 + 1)
+  pub further : (n : ℕ) → Window terms.listing (Told (Message k said) ∷ came) (n + 1) → Has (n + 1 + 1) → Buffered terms.listing (Told (Message k said) ∷ came) (n + 1 + 1)
   unfolding Has
   further n near (inl h) = h
   further n near (inr e) = (inl (sym e), omega arith)

@@ -12,7 +12,7 @@ use Rattle.t7_feed.specs.Cycles.{Finds, Section, orders_of}
 use Rattle.t7_feed.specs.Fitting.{staged}
 use Rattle.t7_feed.specs.Reached.{ReachesByPacket}
 use Rattle.t7_feed.specs.Sending.{AreSent, book_at}
-use Rattle.t7_feed.specs.Whole.{Held, IsBelow, Offers, Whole}
+use Rattle.t7_feed.specs.Whole.{Buffered, IsBelow, Offers, Whole}
 use Rattle.t7_member.proofs.Hear.{chain_holds, chain_reaches}
 use Rattle.t7_member.proofs.Moves.{CoversMore, cycles_stay}
 use Rattle.t7_member.specs.Keeping.{packets_of, Covers, CoversCycles, Fits, Holds, Image, Keeps, Mirrors, Rests, floor, floor_of}
@@ -192,7 +192,7 @@ module _ (terms : Terms) (acts : List Act) (laws : Laws terms acts) (came : List
       let book : list ≡ book_at terms.listing (commands_of acts) m = some_one (sym fits ∙ law) in
       let now : Mirrors terms acts (adopted (received old i snaps ring) m list) =
       record { trusted = refl; list = λ n at. book ∙ ap (λ k. book_at terms.listing (commands_of acts) k) (some_one at); kept = mirrors.kept } in
-      let reached = chain_reaches terms acts laws (Packet i snaps ∷ came) m (Held terms.listing (Packet i snaps ∷ came)) (λ j here. here) (λ n near here. here) m rest refl
+      let reached = chain_reaches terms acts laws (Packet i snaps ∷ came) m (Buffered terms.listing (Packet i snaps ∷ came)) (λ j here. here) (λ n near here. here) m rest refl
       (takes_over i snaps ring m parts list a below upto h) now (omega arith) (λ j above low. absurd (omega arith)) (λ here. here) in
       let offer : Offers terms.listing (Packet i snaps ∷ came) i old.base m parts = record {
         p = a.answers.p;

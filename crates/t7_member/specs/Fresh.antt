@@ -9,14 +9,14 @@ use Rattle.t7_eobi.specs.declared.walks.Live.TheVariants.{Beat, Message}
 use Rattle.t7_eobi.specs.Datagrams.{lives_of, packet_number}
 use Rattle.t7_feed.specs.Arrivals.{Arrival, PacketWindow, Terms, Told, Window, first}
 use Rattle.t7_feed.specs.Reached.{Reaches}
-use Rattle.t7_feed.specs.Whole.{Held, IsBelow}
+use Rattle.t7_feed.specs.Whole.{Buffered, IsBelow}
 
 -- Live message k is new: nothing is reached or it is above what is, it isn't held, and it is in its window or the next after what is reached.
 pub record IsNewMessage (listing : Listing) (came : List Arrival) (k : ℕ) (said : Public) : Type 0 where
   pub reached : Option ℕ
   pub is : Reaches listing came reached
   pub above : IsBelow reached k
-  pub unheld : Held listing came k → ⊥
+  pub unheld : Buffered listing came k → ⊥
   pub near : Window listing (Told (Message k said) ∷ came) k ⊎ ((n : ℕ) × (reached ≡ Some n) × (k ≡ n + 1))
 
 -- an item of a live datagram is new: a Heartbeat never is

@@ -1,4 +1,4 @@
-// What always holds of a member that keeps what came.
+//! What always holds of a member that keeps what came.
 
 ghost use Rattle.std.specs.Prelude.{◌≡◌, ◌≢◌, ◌≤◌, ◌⊎◌, ◌↔◌, IsTrue, ◌∷◌, ℕ, List, Some, None};
 ghost use Rattle.t7_book.specs.Acts.{Act};

@@ -1,4 +1,4 @@
-// One live datagram: the longest run of messages that fits, or a heartbeat.
+//! One live datagram: the longest run of messages that fits, or a heartbeat.
 
 ghost use Rattle.std.specs.Prelude.{◌≡◌, ◌≤◌, ◌<◌, ◌+◌, ◌++◌, length, take, drop, sum_by};
 ghost use Rattle.std.specs.List.{All};

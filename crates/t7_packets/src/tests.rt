@@ -1,4 +1,4 @@
-// Datagrams of the sample table: how many messages each has, and their bytes.
+//! Datagrams of the sample table: how many messages each has, and their bytes.
 
 ghost use Rattle.std.specs.Prelude.{◌≤◌, ◌<◌, IfOk, length};
 ghost use Rattle.std.specs.List.{All};

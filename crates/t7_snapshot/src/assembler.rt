@@ -1,4 +1,4 @@
-// The assembler: it keeps the snapshot datagrams of the last numbers and finds whole cycles among them.
+//! The assembler: it keeps the snapshot datagrams of the last numbers and finds whole cycles among them.
 
 ghost use Rattle.std.specs.Prelude.{◌≡◌, ℕ, ◌+◌, ◌<◌, ◌≤◌, max, List, Option, Some, None, MatchOption, IsTrue, ◌↔◌, IfOk, IfSome, ◌∷◌, get_or, length, false, true};
 ghost use Rattle.std.specs.Bool.{OnTrue};

@@ -1,4 +1,4 @@
-// The reader of a cycle's items.
+//! The reader of a cycle's items.
 
 ghost use Rattle.std.specs.Prelude.{◌≡◌, Some, None};
 ghost use Rattle.std.specs.Bool.{OnTrue, OnFalse};

@@ -1,4 +1,4 @@
-// The snapshot datagrams of the image of the market.
+//! The snapshot datagrams of the image of the market.
 
 ghost use Rattle.std.specs.Prelude.{◌≡◌, ◌≢◌, ◌↔◌, ℕ, List, [], ◌∷◌, ◌++◌, ◌≤◌, ◌<◌, ◌+◌, IsTrue, IfOk, OnOk, None, length, take, drop};
 ghost use Rattle.std.specs.Bool.{OnFalse};

@@ -1,4 +1,4 @@
-// The image of the market: the book that the noted messages make.
+//! The image of the market: the book that the noted messages make.
 
 ghost use Rattle.std.specs.Prelude.{◌≡◌, None};
 ghost use Rattle.t7_mbook.specs.Changes.{after};

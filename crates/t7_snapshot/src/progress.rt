@@ -1,4 +1,4 @@
-// How far a cycle was read.
+//! How far a cycle was read.
 
 ghost use Rattle.std.specs.Prelude.{◌≡◌, IfOk, length};
 

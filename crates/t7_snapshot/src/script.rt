@@ -1,4 +1,4 @@
-// What is left to tell of a frozen book.
+//! What is left to tell of a frozen book.
 
 ghost use Rattle.std.specs.Prelude.{◌≡◌, ◌≢◌, MatchBool, ℕ, ◌+◌, ◌<◌, ◌≤◌, List, Option, Some, None, MatchOption, IfSome, IfOk, [], ◌∷◌, length, drop, get_or, vec_capacity};
 ghost use Rattle.std.specs.List.{All, IsDistinct};

@@ -1,4 +1,4 @@
-// Where the orders of each security begin, and how many they are.
+//! Where the orders of each security begin, and how many they are.
 
 ghost use Rattle.std.specs.Prelude.{◌≡◌, ◌≢◌, ℕ, ◌+◌, ◌<◌, ◌≤◌, length, map, get_or, drop, vec_capacity, MatchOption, [], ◌∷◌};
 ghost use Rattle.std.specs.List.{All, IsDistinct};

@@ -1,4 +1,4 @@
-// The walk over a whole snapshot.
+//! The walk over a whole snapshot.
 
 ghost use Rattle.std.specs.Prelude.{◌≡◌, ◌<◌, ℕ, List};
 ghost use Rattle.t7_feed.specs.Cycles.{Section, orders_of};

@@ -1,4 +1,4 @@
-// A whole snapshot, read in place.
+//! A whole snapshot, read in place.
 
 ghost use Rattle.std.specs.Prelude.{◌≡◌, ◌≢◌, ℕ, ◌+◌, ◌<◌, None};
 ghost use Rattle.t7_snapshot.specs.Store.{seen};
