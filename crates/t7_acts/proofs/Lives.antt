@@ -5,7 +5,7 @@ use Rattle.t7_base.specs.declared.public.Public.{Public}
 use Rattle.t7_layout.specs.Layouts.{Layout}
 use Rattle.t7_book.specs.Acts.{Act, Accepts, Beats, Snaps, commands_of}
 use Rattle.t7_book.specs.Orders.{BookState}
-use Rattle.t7_book.specs.Steps.{Step, book_after, messages, steps}
+use Rattle.t7_book.specs.Steps.{Effect, book_after, messages, steps}
 use Rattle.t7_book.specs.Trace.{book_left, trace_from}
 use Rattle.t7_greedy.specs.Cuts.{cut}
 use Rattle.t7_packets.specs.Datagrams.{live_from, shipped}
@@ -36,7 +36,7 @@ module _ (layouts : List Layout) (limit : ℕ) where
       let last = book_left next (commands_of acts) in
       let n : number + length runs + length rest ≡ number + length (ds ++ rest) = (let k = shipped_count number first runs in let l = length-append ds rest in omega (arith, k, l)) in
       let f : first + length told + length (trace_from next (commands_of acts)) ≡ first + length (steps book c ++ trace_from next (commands_of acts)) =
-      (let k = length-map (steps book c) (λ (s : Step). s.0) in let l = length-append (steps book c) (trace_from next (commands_of acts)) in omega (arith, k, l)) in
+      (let k = length-map (steps book c) (λ (s : Effect). s.0) in let l = length-append (steps book c) (trace_from next (commands_of acts)) in omega (arith, k, l)) in
       ap (λ l. ds ++ l) (live_both next (number + length runs) (first + length told) acts more)
       ∙ sym (append_assoc ds rest _)
       ∙ ap (λ k. (ds ++ rest) ++ live_from layouts limit last k (first + length told + length (trace_from next (commands_of acts))) more) n

@@ -4,7 +4,7 @@ use Rattle.std.proofs.lemmas.List.{length-map}
 use Rattle.t7_base.specs.declared.public.Public.{Public}
 use Rattle.t7_book.specs.declared.command.Command.{Command}
 use Rattle.t7_book.specs.Orders.{BookState, empty_book, roster_of}
-use Rattle.t7_book.specs.Steps.{Step, book_after, messages, steps}
+use Rattle.t7_book.specs.Steps.{Effect, book_after, messages, steps}
 use Rattle.t7_book.specs.Trace.{book_left, trace, trace_from}
 use Rattle.t7_greedy.specs.Cuts.{joined}
 use Rattle.t7_entry.specs.State.{Doing, Setting, book_of}
@@ -23,7 +23,7 @@ told_count book (c ∷ cs) =
     let next = book_after book c in
     let front = joined_before (messages (steps book c)) (told_by next cs) in
     let rest = told_count next cs in
-    let many = length-map (steps book c) (λ (s : Step). s.0) in
+    let many = length-map (steps book c) (λ (s : Effect). s.0) in
     let both = length-append (steps book c) (trace_from next cs) in
     omega (arith, front, rest, many, both)
 

@@ -1,4 +1,4 @@
-// What an event adds to a day.
+//! What an event adds to a day.
 
 ghost use Rattle.std.specs.Prelude.{◌≡◌, ℕ, ◌+◌, List, [], ◌∷◌, ◌++◌, length, map};
 ghost use Rattle.t7_base.specs.declared.ids.Channel.TheVariants as channel;

@@ -1,4 +1,4 @@
-// How the datagrams of acts grow.
+//! How the datagrams of acts grow.
 
 ghost use Rattle.std.specs.Prelude.{◌≡◌, ◌+◌, ℕ, List, [], ◌∷◌, ◌++◌, map, Some};
 ghost use Rattle.t7_base.specs.declared.ids.Channel.{Channel};

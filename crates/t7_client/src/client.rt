@@ -1,4 +1,4 @@
-// The calls of a client.
+//! The calls of a client.
 
 ghost use Rattle.std.specs.Prelude.{◌≡◌, ◌+◌, ◌^◌, ◌<◌, ◌≤◌, ◌++◌, ◌≤ℤ◌, pos, length, min, take, drop};
 ghost use Rattle.std.specs.Prelude.{true, None, IfOk, IfErr, OnOk, OnErr};

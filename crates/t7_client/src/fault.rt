@@ -1,4 +1,4 @@
-// The end of a connection by what comes down.
+//! The end of a connection by what comes down.
 
 /// Why bytes that came down ended the connection.
 #[derive(Clone, Copy, Debug, PartialEq, Eq)]

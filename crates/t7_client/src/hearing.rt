@@ -1,4 +1,4 @@
-// The responses among the bytes of a connection.
+//! The responses among the bytes of a connection.
 
 ghost use Rattle.std.specs.Prelude.{◌≡◌, ◌≤◌, length, IfSome, true};
 ghost use Rattle.t7_layout.specs.declared.words.Family.TheVariants.{Eti};
@@ -26,7 +26,6 @@ pub(crate) enum Told {
 }
 
 // The TemplateID of a frame.
-#[tactic(auto, unfolding(t7_fields::specs::Spelling::template_id, t7_fields::specs::Spelling::length_width))]
 fn template_id(frame: &[u8]) -> u16
     requires { 6 ≤ length frame.now }
     ensures { result ≡ template_id Eti frame.now }
@@ -40,7 +39,6 @@ fn response_by(table: &Table, frame: &[u8]) -> Option<Response>
     ensures value { result ≡ response_by table.now frame.now }
     ensures long { IfSome result (λ said. asks said ≡ true → 16 ≤ length frame.now) }
 {
-    table.templates();
     let template = table.template(Family::Eti, template_id(frame))?;
     let Ok(view) = View::of(template, frame) else {
         return None;

@@ -1,4 +1,4 @@
-// What always holds of a client, as the contract of a function that does nothing.
+//! What always holds of a client, as the contract of a function that does nothing.
 
 ghost use Rattle.t7_client.specs.Fronts.{FrontsAreGathered};
 

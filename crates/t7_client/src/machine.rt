@@ -1,4 +1,4 @@
-// A client as a machine over the frames that come down.
+//! A client as a machine over the frames that come down.
 
 ghost use Rattle.std.specs.Prelude.{◌≡◌, ◌⊎◌, ℕ, List, ◌+◌, ◌-◌, ◌^◌, ◌<◌, ◌≤◌, ◌++◌, length, min, take, drop};
 ghost use Rattle.std.specs.Prelude.{true, None, IfOk, IfErr, OnOk, OnErr, Ok, Err};

@@ -1,4 +1,4 @@
-// The requests of a client, as bytes that wait to be sent.
+//! The requests of a client, as bytes that wait to be sent.
 
 ghost use Rattle.std.specs.Prelude.{◌≡◌, ◌++◌, ◌≤◌, IfOk, OnOk, OnErr};
 ghost use Rattle.t7_eti.specs.declared.request.Request.TheVariants as request;
@@ -47,7 +47,6 @@ pub(crate) fn logon(alloc: Global, table: &Table, session: SessionId) -> Result<
 }
 
 /// The number of a side on the wire.
-#[tactic(auto, unfolding(t7_eti::specs::Saying::side_number))]
 pub(crate) fn side_number(side: Side) -> u8
     ensures { result ≡ side_number side }
 {

@@ -1,4 +1,4 @@
-// A client's connections, against frames that are worked by hand from the manuals' layouts.
+//! A client's connections, against frames that are worked by hand from the manuals' layouts.
 
 use crate::Client;
 use std::alloc::{AllocError, Global};

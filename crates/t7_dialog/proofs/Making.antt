@@ -10,7 +10,7 @@ use Rattle.t7_base.specs.declared.ids.Side.TheVariants.{Buy, Sell}
 use Rattle.t7_layout.specs.Layouts.{Layout}
 use Rattle.t7_layout.specs.declared.roles.FieldName.{FieldName}
 use Rattle.t7_layout.specs.declared.words.Kind.TheVariants.{Signed}
-use Rattle.t7_fields.specs.declared.writer.Number.{Number}
+use Rattle.t7_fields.specs.declared.writer.Scalar.{Scalar}
 use Rattle.t7_fields.specs.Spelling.{IsHeld}
 use Rattle.t7_fields.specs.Writing.{AreSized, IsOrdinary, IsSized}
 use Rattle.t7_eti.specs.declared.request.Request.{Request}
@@ -21,16 +21,16 @@ use Rattle.t7_dialog.specs.Asking.{AreAsked, AreMade, IsMade}
 use Rattle.t7_dialog.specs.Coming.{AreResends}
 
 -- each of these is a number of its type
-abbrev EachSized : List (FieldName × Number) → Type 0
+abbrev EachSized : List (FieldName × Scalar) → Type 0
 EachSized [] = Unit {0}
 EachSized (p ∷ ps) = IsSized p.1 × EachSized ps
 
-sized_at : (ps : List (FieldName × Number)) (p : FieldName × Number) → EachSized ps → Contains ps p → IsSized p.1
+sized_at : (ps : List (FieldName × Scalar)) (p : FieldName × Scalar) → EachSized ps → Contains ps p → IsSized p.1
 sized_at [] p each (i, low, is) = absurd (omega (arith, low))
-sized_at (q ∷ ps) p each (zero, low, is) = let same : q ≡ p = is in subst (λ (x : FieldName × Number). IsSized x.1) same each.0
+sized_at (q ∷ ps) p each (zero, low, is) = let same : q ≡ p = is in subst (λ (x : FieldName × Scalar). IsSized x.1) same each.0
 sized_at (q ∷ ps) p each (suc i, low, is) = sized_at ps p each.1 (i, omega (arith, low), is)
 
-sized : (ps : List (FieldName × Number)) → EachSized ps → AreSized ps
+sized : (ps : List (FieldName × Scalar)) → EachSized ps → AreSized ps
 sized ps each = record { each = λ p there. sized_at ps p each there }
 
 -- a LogonRequest

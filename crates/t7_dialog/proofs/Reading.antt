@@ -10,9 +10,9 @@ use Rattle.t7_layout.specs.Layouts.{IsLayout, Layout}
 use Rattle.t7_layout.specs.Lookups.{IsTable, find_role, find_template, role_of_layout}
 use Rattle.t7_layout.specs.Roles.{family_of}
 use Rattle.t7_layout.proofs.FoundFacts.{role_family, role_id, role_own, role_whole}
-use Rattle.t7_fields.specs.declared.writer.Number.{Number}
+use Rattle.t7_fields.specs.declared.writer.Scalar.{Scalar}
 use Rattle.t7_fields.specs.Spelling.{Fits, body_length, length_width, template_id}
-use Rattle.t7_fields.specs.Writing.{AreSaid, AreSized, IsWritten, message_of}
+use Rattle.t7_fields.specs.Writing.{AreSaid, AreSized, IsWritten, message_saying}
 use Rattle.t7_frames.specs.Frames.{IsFrame, body_len}
 use Rattle.t7_eti.specs.declared.request.Request.{Request}
 use Rattle.t7_eti.specs.declared.request.Request.TheVariants as request
@@ -31,7 +31,7 @@ use Rattle.t7_dialog.specs.Saying.{IsSaid}
 
 -- what is known of a message that is written
 abbrev pub Writes : Type 0
-Writes = (layouts : List Layout) (role : Role) (ps : List (FieldName × Number)) → IsTable layouts → AreSaid layouts role ps → AreSized ps → IsWritten layouts role ps (message_of layouts role ps)
+Writes = (layouts : List Layout) (role : Role) (ps : List (FieldName × Scalar)) → IsTable layouts → AreSaid layouts role ps → AreSized ps → IsWritten layouts role ps (message_saying layouts role ps)
 
 -- order entry has templates for requests and responses
 asked_family : (r : Request) → family_of (request_role r) ≡ Eti
@@ -94,7 +94,7 @@ record Template (layouts : List Layout) (role : Role) (bytes : List ℕ) (t : La
   of_role : role_of_layout t ≡ Some role
   count : length bytes ≡ t.size
 
-template_of : (layouts : List Layout) (role : Role) (ps : List (FieldName × Number)) (bytes : List ℕ) → IsTable layouts → family_of role ≡ Eti → (written : IsWritten layouts role ps bytes)
+template_of : (layouts : List Layout) (role : Role) (ps : List (FieldName × Scalar)) (bytes : List ℕ) → IsTable layouts → family_of role ≡ Eti → (written : IsWritten layouts role ps bytes)
     → Template layouts role bytes written.message.0
 template_of layouts role ps bytes table eti written =
     let t = written.message.0 in

@@ -16,7 +16,7 @@ use Rattle.t7_session.specs.declared.session.Step.{Step}
 use Rattle.t7_session.specs.declared.session.Step.TheVariants as step
 use Rattle.t7_session.specs.Heartbeats.{interval_of}
 use Rattle.t7_session.specs.Asked.{asked_of}
-use Rattle.t7_session.specs.Steps.{frame_step, has_number, is_logon, wanted}
+use Rattle.t7_session.specs.Steps.{frame_step, has_number, is_logon, wanted_number}
 use Rattle.t7_layout.specs.Layouts.{Layout}
 use Rattle.t7_orders.specs.declared.response.Numbered.{Numbered}
 use Rattle.t7_orders.specs.Answers.{answers_of, numbered, responses, stored}
@@ -143,7 +143,7 @@ of_step layouts session held next frame asked is own =
     rw is
     (by (is_logon asked && is_some held) AlreadyLoggedOn _
     (by (not (is_logon asked) && not (is_some held)) NotLoggedOn _
-    (by (not (has_number (wanted next asked) (request_number asked))) SeqNum (step.Ask asked) own)))
+    (by (not (has_number (wanted_number next asked) (request_number asked))) SeqNum (step.Ask asked) own)))
   where
     by : (b : Bool) (reason : Reason) (other : Step) → IsOfStep session other → IsOfStep session (cond b (step.Refuse (request_number asked) reason) other)
     by true reason other of = tt

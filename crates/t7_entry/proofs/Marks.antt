@@ -9,7 +9,7 @@ use Rattle.t7_book.specs.declared.command.Command.TheVariants as command
 use Rattle.t7_book.specs.Orders.{BookState, goes_before, is_in, is_of, is_order, order_of, renewed, same_name, with_left, with_order, without}
 use Rattle.t7_book.specs.Commands.{changed_order, keeps_priority, new_order, new_stamp, with_total}
 use Rattle.t7_book.specs.Trades.{after_trade, after_trades, crosses, is_used_up, taken, traded, trades}
-use Rattle.t7_book.specs.Steps.{Step, arrival, book_after, cancellation, change, crossing, deletions, executions, list_after, modification, remainder, steps}
+use Rattle.t7_book.specs.Steps.{Effect, arrival, book_after, cancellation, change, crossing, deletions, executions, list_after, modification, remainder, steps}
 use Rattle.t7_book.specs.Laws.{Each}
 use Rattle.t7_book.proofs.Lists.{each_at, each_filter, each_placed, found_in}
 
@@ -19,15 +19,15 @@ module _ (P : ℕ → ℕ → ℤ → ℕ → Type 0) where
   Marked y = P y.owner y.id y.rest.price y.rest.stamp
 
   -- of each order of every step's list
-  abbrev AllMarked : List Step → Type 0
+  abbrev AllMarked : List Effect → Type 0
   AllMarked [] = Unit {0}
   AllMarked (s ∷ ss) = Each Marked s.1 × AllMarked ss
 
-  marked_append : (xs ys : List Step) → AllMarked xs → AllMarked ys → AllMarked (xs ++ ys)
+  marked_append : (xs ys : List Effect) → AllMarked xs → AllMarked ys → AllMarked (xs ++ ys)
   marked_append [] ys a b = b
   marked_append (x ∷ xs) ys a b = (a.0, marked_append xs ys a.1 b)
 
-  marked_after : (ss : List Step) (orders : List Order) → Each Marked orders → AllMarked ss → Each Marked (list_after ss orders)
+  marked_after : (ss : List Effect) (orders : List Order) → Each Marked orders → AllMarked ss → Each Marked (list_after ss orders)
   marked_after [] orders marked all = marked
   marked_after (s ∷ ss) orders marked all = marked_after ss s.1 all.0 all.1
 

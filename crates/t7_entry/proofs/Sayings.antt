@@ -9,7 +9,7 @@ use Rattle.t7_base.specs.Listing.{IsListing, Listing}
 use Rattle.t7_base.specs.Ranges.{IsMoment, IsPrice}
 use Rattle.t7_base.specs.declared.ids.Side.{Side}
 use Rattle.t7_base.specs.declared.ids.Side.TheVariants.{Buy, Sell}
-use Rattle.t7_fields.specs.declared.writer.Number.TheVariants as number
+use Rattle.t7_fields.specs.declared.writer.Scalar.TheVariants as number
 use Rattle.t7_fields.specs.Writing.{IsOrdinary}
 use Rattle.t7_eti.specs.declared.response.Kept.{Kept}
 use Rattle.t7_eti.specs.declared.response.Kept.TheVariants as kept

@@ -14,7 +14,7 @@ use Rattle.t7_eobi.specs.Bytes.{IsSecurity}
 use Rattle.t7_book.specs.declared.command.Command.{Command}
 use Rattle.t7_book.specs.About.{IsAbout}
 use Rattle.t7_book.specs.Orders.{BookState, empty_book, roster_of}
-use Rattle.t7_book.specs.Steps.{Step, book_after, messages, steps}
+use Rattle.t7_book.specs.Steps.{Effect, book_after, messages, steps}
 use Rattle.t7_book.specs.Trace.{book_left, trace, trace_from}
 use Rattle.t7_packets.specs.Packing.{IsWritable}
 use Rattle.t7_orders.specs.declared.response.Numbered.{Numbered}
@@ -37,9 +37,9 @@ use Rattle.t7_exchange.specs.Wires.{Acts, Wires, core_of}
 pub trace-more : (book : BookState) (cs : List Command) (c : Command) → trace_from book (cs ++ c ∷ []) ≡ trace_from book cs ++ steps (book_left book cs) c
 trace-more book [] c = append-nil (steps book c)
 trace-more book (x ∷ cs) c =
-    ap (λ (s : List Step). steps book x ++ s) (trace-more (book_after book x) cs c) ∙ sym (append_assoc (steps book x) (trace_from (book_after book x) cs) (steps (book_left (book_after book x) cs) c))
+    ap (λ (s : List Effect). steps book x ++ s) (trace-more (book_after book x) cs c) ∙ sym (append_assoc (steps book x) (trace_from (book_after book x) cs) (steps (book_left (book_after book x) cs) c))
 
-pub length-messages : (ss : List Step) → length (messages ss) ≡ length ss
+pub length-messages : (ss : List Effect) → length (messages ss) ≡ length ss
 length-messages [] = refl
 length-messages (s ∷ ss) = let rest = length-messages ss in omega (arith, rest)
 
@@ -77,7 +77,7 @@ pub steps_writable : (listing : Listing) (cs : List Command) (c : Command) → I
 steps_writable listing cs c is all =
     let start = empty_book (roster_of listing) in
     let ss = steps (book_left start cs) c in
-    let split : messages (trace listing (cs ++ c ∷ [])) ≡ messages (trace_from start cs) ++ messages ss = ap messages (trace-more start cs c) ∙ map-append (λ (s : Step). s.0) (trace_from start cs) ss in
+    let split : messages (trace listing (cs ++ c ∷ [])) ≡ messages (trace_from start cs) ++ messages ss = ap messages (trace-more start cs c) ∙ map-append (λ (s : Effect). s.0) (trace_from start cs) ss in
     All-weaker (IsAbout listing.securities) IsWritable (about_writable listing is) (messages ss)
     (all_right (IsAbout listing.securities) (messages (trace_from start cs)) (messages ss) (subst (All (IsAbout listing.securities)) split all))
 

@@ -15,7 +15,7 @@ use Rattle.t7_session.specs.declared.session.Step.{Step}
 use Rattle.t7_session.specs.declared.session.Step.TheVariants as step
 use Rattle.t7_session.specs.Asked.{asked_of}
 use Rattle.t7_session.specs.Held.{Held, opened}
-use Rattle.t7_session.specs.Steps.{asked_in, has_number, is_logon, session_step, step_at, step_by, step_of, wanted}
+use Rattle.t7_session.specs.Steps.{asked_in, has_number, is_logon, session_step, step_at, step_by, step_of, wanted_number}
 use Rattle.t7_entry.specs.ByNumber.{Rises, contains_key, get, insert, keys, len, remove}
 use Rattle.t7_entry.specs.State.{Setting, State, line_of}
 use Rattle.t7_entry.specs.Days.{Day, day_after, went_on}
@@ -163,7 +163,7 @@ asked_session : (session : Option ℕ) (next : ℕ) (q r : Request) → session_
 asked_session session next q r is =
     let a = past (is_logon q && is_some session) (request_number q) AlreadyLoggedOn _ r is in
     let b = past (not (is_logon q) && not (is_some session)) (request_number q) NotLoggedOn _ r a.1 in
-    let d = past (not (has_number (wanted next q) (request_number q))) (request_number q) SeqNum _ r b.1 in
+    let d = past (not (has_number (wanted_number next q) (request_number q))) (request_number q) SeqNum _ r b.1 in
     let same : q ≡ r = (let e : step.Ask q ≡ step.Ask r = d.1 in cc) in
     fits_session (is_logon q) (is_some session) a.0 b.0 ∙ ap (λ (x : Request). not (is_logon x)) same
 

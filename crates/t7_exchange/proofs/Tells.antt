@@ -14,7 +14,7 @@ use Rattle.t7_book.specs.declared.command.Command.TheVariants as command
 use Rattle.t7_book.specs.Commands.{changed_order, keeps_priority, new_order, new_stamp, with_total}
 use Rattle.t7_book.specs.Laws.{TracesGrow}
 use Rattle.t7_book.specs.Orders.{BookState, empty_book, is_of, order_of, renewed, roster_of, same_name, shown, without}
-use Rattle.t7_book.specs.Steps.{Step, arrival, cancellation, change, crossing, deletions, executions, messages, modification, remainder, steps}
+use Rattle.t7_book.specs.Steps.{Effect, arrival, cancellation, change, crossing, deletions, executions, messages, modification, remainder, steps}
 use Rattle.t7_book.specs.Trace.{AreAccepted, book_left, market, trace, trace_from}
 use Rattle.t7_book.specs.Trades.{after_trade, after_trades, crosses, taken, traded, trades}
 use Rattle.t7_book.proofs.ListLemmas.{length_filter_le}
@@ -53,10 +53,10 @@ behind [] ys n i is = let same : n ≡ i = omega (arith, is) in ap (slice_get ys
 behind (x ∷ xs) ys zero i is = absurd (omega (arith, is))
 behind (x ∷ xs) ys (suc n) i is = behind xs ys n i (omega (arith, is))
 
-messages_append : (xs ys : List Step) → messages (xs ++ ys) ≡ messages xs ++ messages ys
-messages_append xs ys = map-append (λ (s : Step). s.0) xs ys
+messages_append : (xs ys : List Effect) → messages (xs ++ ys) ≡ messages xs ++ messages ys
+messages_append xs ys = map-append (λ (s : Effect). s.0) xs ys
 
-count_messages : (ss : List Step) → length (messages ss) ≡ length ss
+count_messages : (ss : List Effect) → length (messages ss) ≡ length ss
 count_messages [] = refl
 count_messages (s ∷ ss) = let rest = count_messages ss in omega (arith, rest)
 

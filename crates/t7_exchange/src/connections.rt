@@ -1,4 +1,4 @@
-// The open connections.
+//! The open connections.
 
 ghost use Rattle.std.specs.Prelude.{◌≡◌, ◌+◌, ◌-◌, ◌<◌, ◌≤◌, length, min, Some, None, is_some, IsNone, IsSome, IfSome, IfOk, OnOk, OnErr, option_map, max};
 ghost use Rattle.std.specs.Option.{option_and_then, option_map_or};

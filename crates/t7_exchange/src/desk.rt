@@ -1,4 +1,4 @@
-// The responses of a command, stored.
+//! The responses of a command, stored.
 
 ghost use Rattle.std.specs.Prelude.{◌≡◌, ℕ, ◌+◌, ◌-◌, ◌≤◌, ◌<◌, ◌++◌, ◌∷◌, [], List, None, true, false, length, Contains};
 ghost use Rattle.std.specs.Prelude.{OnErr, OnOk, IfOk, MatchResult, vec_capacity, vec_len};

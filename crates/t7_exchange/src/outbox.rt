@@ -1,4 +1,4 @@
-// The messages that are still to be sent, the live datagrams, and the snapshot datagrams.
+//! The messages that are still to be sent, the live datagrams, and the snapshot datagrams.
 
 ghost use Rattle.std.specs.Prelude.{◌≡◌, ◌≢◌, ◌↔◌, ◌+◌, ◌<◌, ◌≤◌, [], length, IsTrue, IfOk, OnOk, OnErr, MatchOption, vec_len};
 ghost use Rattle.std.specs.List.{All};

@@ -1,4 +1,4 @@
-// What the frame at the front of a connection asks, carried out.
+//! What the frame at the front of a connection asks, carried out.
 
 ghost use Rattle.std.specs.Prelude.{◌≡◌, ℕ, ◌<◌, List, Contains, Some, None, length, IsNone, IsSome, IfSome, OnOk, OnErr};
 ghost use Rattle.std.specs.List.{All};

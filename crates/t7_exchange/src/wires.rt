@@ -1,4 +1,4 @@
-// Connections, and the replies that wait for them.
+//! Connections, and the replies that wait for them.
 
 ghost use Rattle.std.specs.Prelude.{◌≡◌, ℕ, ◌+◌, ◌-◌, ◌<◌, ◌≤◌, ◌++◌, ◌∷◌, ◌^◌, [], List, length, map, min, max, drop, slice_get};
 ghost use Rattle.std.specs.Prelude.{Some, IsNone, IsSome, IfSome, OnOk, OnErr, option_map};

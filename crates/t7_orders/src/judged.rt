@@ -1,4 +1,4 @@
-// The tests of an order request against the product and the book.
+//! The tests of an order request against the product and the book.
 
 ghost use Rattle.std.specs.Prelude.{◌≡◌, pos, nat_abs, ◌≤ℤ◌, true, false, MatchOption};
 ghost use Rattle.std.specs.List.{position};
@@ -45,7 +45,6 @@ fn step_of(product: &Product, security: SecurityId) -> i64
 }
 
 // The price of a number, where it is in its range and on the security's step.
-#[tactic(auto, using(crate::proofs::JudgedFacts::price_here, crate::proofs::JudgedFacts::no_price))]
 fn price_of(product: &Product, security: SecurityId, number: i64) -> Option<Price>
     ensures { MatchOption result (is_price product.now security number ≡ false) (λ p. (is_price product.now security number ≡ true) × (p ≡ number)) }
 {
@@ -60,7 +59,6 @@ fn price_of(product: &Product, security: SecurityId, number: i64) -> Option<Pric
 }
 
 // The quantity of a number, where it is in its range.
-#[tactic(auto, using(crate::proofs::JudgedFacts::quantity_here, crate::proofs::JudgedFacts::no_quantity))]
 fn quantity_of(number: i64) -> Option<Qty>
     ensures { MatchOption result (is_quantity number ≡ false) (λ q. (is_quantity number ≡ true) × (q ≡ nat_abs number)) }
 {

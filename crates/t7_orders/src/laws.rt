@@ -1,4 +1,4 @@
-// Laws of the tests and of the responses, each as the contract of a function that does nothing.
+//! Laws of the tests and of the responses, each as the contract of a function that does nothing.
 
 ghost use Rattle.t7_orders.specs.Laws.{CommandsAreTaken, FirstFailingIsTold, NumberedFromOne, ResponsesGrow};
 

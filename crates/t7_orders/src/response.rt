@@ -1,4 +1,4 @@
-// The recoverable responses of a command.
+//! The recoverable responses of a command.
 
 ghost use Rattle.std.specs.Prelude.{◌≡◌, ◌+◌, ◌*◌, ◌≤◌, ◌++◌, ◌∷◌, [], length, vec_len, vec_capacity};
 ghost use Rattle.t7_orders.specs.Answers.{answers, clearings, executions, opposite};
@@ -68,7 +68,6 @@ fn push_execution(session: SessionId, order: OrderId, note: &Note, out: &mut Vec
 }
 
 // Appends the executions of a command of one session on one order.
-#[tactic(auto, using(crate::proofs::ResponseFacts::executions_more))]
 fn push_executions(
     session: SessionId,
     order: OrderId,

@@ -1,4 +1,4 @@
-// Order requests against the table of tests, and the responses of orders against what is worked out by hand.
+//! Order requests against the table of tests, and the responses of orders against what is worked out by hand.
 
 ghost use Rattle.std.specs.Prelude.{◌≡◌, ◌≤◌, ◌<◌, ◌+◌};
 ghost use Rattle.t7_book.specs.Orders.{roster_of};

@@ -1,4 +1,4 @@
-// The responses that a client gathered of its session.
+//! The responses that a client gathered of its session.
 
 ghost use Rattle.std.specs.Prelude.{◌≡◌, ◌+◌, length, OnErr, IfOk, Ok, Err, []};
 ghost use Rattle.t7_recover.specs.Gathering.{gathered_with, offered_as};

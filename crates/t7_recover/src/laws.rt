@@ -1,4 +1,4 @@
-// A law of ranges, as the contract of a function that does nothing.
+//! A law of ranges, as the contract of a function that does nothing.
 
 ghost use Rattle.t7_recover.specs.Ranges.{RangesAreSlices};
 

@@ -1,4 +1,4 @@
-// The responses that are stored for each session.
+//! The responses that are stored for each session.
 
 ghost use Rattle.std.specs.Prelude.{◌≡◌, ◌+◌, ◌≤◌, length, map, Contains, IfOk, OnOk, OnErr, Ok, Err, if◌then◌else◌, MatchResult, true, false};
 ghost use Rattle.t7_recover.specs.Ranges.{is_bad_range, range_of};

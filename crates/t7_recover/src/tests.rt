@@ -1,4 +1,4 @@
-// Ranges of stored responses, against the numbers that they are to have, and what a client gathers.
+//! Ranges of stored responses, against the numbers that they are to have, and what a client gathers.
 
 ghost use Rattle.std.specs.Prelude.{◌≤◌};
 ghost use Rattle.t7_recover.specs.Shelves.{spare_of};

@@ -19,7 +19,7 @@ use Rattle.t7_session.specs.declared.session.Step.TheVariants.{NotYet, Ask, Refu
 use Rattle.t7_session.specs.Asked.{asked_as, asked_of, asked_under, asked_with, or_null, unnumbered}
 use Rattle.t7_session.specs.Held.{Held}
 use Rattle.t7_session.specs.Steps.{frame_step, has_number, is_logon, step_at, step_by, step_of}
-use Rattle.t7_session.specs.Tests.{FirstFailingIsTold, Form, fails_again, fails_fields, fails_first_number, fails_logged_on, fails_next_number, fails_size, form_under, form_with, frame_at, message_of, read, tests, tests_of}
+use Rattle.t7_session.specs.Tests.{FirstFailingIsTold, Form, fails_again, fails_fields, fails_first_number, fails_logged_on, fails_next_number, fails_size, form_under, form_with, frame_at, form_message, read, tests, tests_of}
 
 -- the reason of the first of these tests that fails
 abbrev first_reason : List Test → Option Reason
@@ -128,9 +128,9 @@ module _ (layouts : List Layout) (session : Option ℕ) (next : ℕ) (frame : Li
   by_fields message (Ok request) = by_logon request (is_logon request) (is_some session)
 
   by_size : (form : Form) (short : Bool)
-      → Says false short (not (is_ok (request_of (message_of layouts frame form)))) (cond short (Err (unnumbered reason.BadLength)) (or_null (message_of layouts frame form) (request_of (message_of layouts frame form))))
+      → Says false short (not (is_ok (request_of (form_message layouts frame form)))) (cond short (Err (unnumbered reason.BadLength)) (or_null (form_message layouts frame form) (request_of (form_message layouts frame form))))
   by_size form true = refl
-  by_size form false = by_fields (message_of layouts frame form) (request_of (message_of layouts frame form))
+  by_size form false = by_fields (form_message layouts frame form) (request_of (form_message layouts frame form))
 
   by_request : (template : Layout) (role : Role) (b : Bool)
       → let form : Option Form = cond b (Some (record { template = template; role = role })) None in

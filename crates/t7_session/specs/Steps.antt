@@ -20,19 +20,19 @@ is_logon other = false
 
 -- a number, where there is one, is the one that is wanted
 abbrev pub has_number : ℕ → Option ℕ → Bool
-has_number wanted None = true
-has_number wanted (Some seq) = seq == wanted
+has_number wanted_number None = true
+has_number wanted_number (Some seq) = seq == wanted_number
 
 -- the number that a request has to have: 1 where it logs on, else the next of its session
-abbrev pub wanted : ℕ → Request → ℕ
-wanted next request = if is_logon request then 1 else next
+abbrev pub wanted_number : ℕ → Request → ℕ
+wanted_number next request = if is_logon request then 1 else next
 
 -- the tests of a request on its session and its number
 abbrev pub session_step : Option ℕ → ℕ → Request → Step
 session_step session next request =
     if is_logon request && is_some session then Refuse (request_number request) AlreadyLoggedOn else
     if not (is_logon request) && not (is_some session) then Refuse (request_number request) NotLoggedOn else
-    if not (has_number (wanted next request) (request_number request)) then Refuse (request_number request) SeqNum else
+    if not (has_number (wanted_number next request) (request_number request)) then Refuse (request_number request) SeqNum else
     Ask request
 
 -- these tests come after those of the frame's form

@@ -39,8 +39,8 @@ abbrev pub form_of : List Layout → List ℕ → Option Form
 form_of layouts frame = form_under (find_template layouts Eti (template_id Eti frame))
 
 -- a frame as a message of its form
-abbrev pub message_of : List Layout → List ℕ → Form → Message
-message_of layouts frame form = record { layouts = layouts; role = form.role; bytes = frame }
+abbrev pub form_message : List Layout → List ℕ → Form → Message
+form_message layouts frame form = record { layouts = layouts; role = form.role; bytes = frame }
 
 -- the frame at the front, where its length is in its range
 abbrev pub frame_at : Front → List ℕ
@@ -69,7 +69,7 @@ fails_size frame form = option_map_or (λ f. nat_lt (length frame) f.template.si
 
 -- a field that the request requires has no value, or one that counts as none
 abbrev pub fails_fields : List Layout → List ℕ → Option Form → Bool
-fails_fields layouts frame form = option_map_or (λ f. not (is_ok (request_of (message_of layouts frame f)))) form false
+fails_fields layouts frame form = option_map_or (λ f. not (is_ok (request_of (form_message layouts frame f)))) form false
 
 -- a logon, while a session is logged on
 abbrev pub fails_again : Option ℕ → Option Request → Bool

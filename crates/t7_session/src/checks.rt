@@ -1,4 +1,4 @@
-// The tests on a frame that need nothing but the layout table and the state of its connection.
+//! The tests on a frame that need nothing but the layout table and the state of its connection.
 
 ghost use Rattle.std.specs.Prelude.{◌≡◌, ℕ, ◌<◌, ◌≤◌, IfOk, IfErr, IfSome, IsNone, Some, None, length, true};
 ghost use Rattle.std.specs.Option.{option_and_then};
@@ -15,7 +15,7 @@ ghost use Rattle.t7_session.specs.Steps.{asked_in, frame_step, has_number, is_lo
 use crate::session::Step;
 use byteorder::{ByteOrder, LittleEndian};
 use t7_base::SessionId;
-use t7_eti::{Reason, Request, read_number, read_request};
+use t7_eti::{Reason, Request, is_request, read_number, read_request};
 use t7_fields::View;
 use t7_layout::{Family, Role, Table, Template};
 
@@ -34,30 +34,11 @@ fn unnumbered(reason: Reason) -> Refusal
 }
 
 // The TemplateID of a frame.
-#[tactic(auto, unfolding(t7_fields::specs::Spelling::template_id, t7_fields::specs::Spelling::length_width))]
 fn template_id(frame: &[u8]) -> u16
     requires { 6 ≤ length frame.now }
     ensures { result ≡ template_id Eti frame.now }
 {
     LittleEndian::read_u16(&frame[4..])
-}
-
-// Whether a role is one of a request.
-#[tactic(auto, unfolding(t7_eti::specs::Requests::is_request))]
-fn is_request(role: Role) -> bool
-    ensures { result ≡ is_request role }
-{
-    match role {
-        Role::LogonRequest
-        | Role::LogoutRequest
-        | Role::EtiHeartbeat
-        | Role::NewOrderSingleRequest
-        | Role::ModifyOrderSingleRequest
-        | Role::DeleteOrderSingleRequest
-        | Role::DeleteAllOrderRequest
-        | Role::RetransmitMEMessageRequest => true,
-        _ => false,
-    }
 }
 
 // The number that the Reject of a frame carries in which a field is missing.
@@ -103,7 +84,7 @@ fn asked_as(
 
 /// What a frame asks, or the first failing test of its form: whether its template is one of a request, whether it is
 /// long enough, and whether each field that the request requires has a value.
-pub(crate) fn asked(table: &Table, frame: &[u8]) -> Result<Request, Refusal>
+pub(crate) fn asked_of(table: &Table, frame: &[u8]) -> Result<Request, Refusal>
     requires { IsFrame frame.now }
     ensures value { result ≡ asked_of table.now frame.now }
     ensures askable { IfOk result IsAskable }
@@ -119,7 +100,6 @@ pub(crate) fn asked(table: &Table, frame: &[u8]) -> Result<Request, Refusal>
 }
 
 // The MsgSeqNum of a request.
-#[tactic(auto, unfolding(t7_eti::specs::Requests::request_number))]
 pub(crate) fn number_of(request: Request) -> Option<u32>
     ensures { result ≡ request_number request }
 {
@@ -195,7 +175,7 @@ pub(crate) fn frame_step(table: &Table, session: Option<SessionId>, next: u32, f
     ensures askable { IfSome (asked_in result) IsAskable }
     ensures refused { IfSome (number_refused result) (λ n. n < 4_294_967_295) }
 {
-    match asked(table, frame) {
+    match asked_of(table, frame) {
         Ok(request) => session_step(session, next, request),
         Err(refusal) => Step::Refuse {
             seq: refusal.seq,

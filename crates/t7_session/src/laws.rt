@@ -1,4 +1,4 @@
-// A law of the tests on a frame, as the contract of a function that does nothing.
+//! A law of the tests on a frame, as the contract of a function that does nothing.
 
 ghost use Rattle.t7_session.specs.Tests.{FirstFailingIsTold};
 

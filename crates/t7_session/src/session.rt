@@ -1,4 +1,4 @@
-// One connection: its bytes, its session and its heartbeats.
+//! One connection: its bytes, its session and its heartbeats.
 
 ghost use Rattle.std.specs.Prelude.{◌≡◌, ◌+◌, ◌-◌, ◌<◌, ◌≤◌, ◌++◌, Some, length, take, min, IfOk, IfSome, IsNone, IsSome, if◌then◌else◌, ◌↔◌, max};
 ghost use Rattle.t7_frames.specs.Frames.{front_of, not_yet};

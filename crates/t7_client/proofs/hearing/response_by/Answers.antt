@@ -14,6 +14,6 @@ pub returns-in-Ok-read_response-clause-long : goal.returns-in-Ok-read_response-c
 returns-in-Ok-read_response-clause-long c = λ asked.
     let t = c.in_ok-template.template.now in
     let long : 16 ≤ t.size =
-    asks_long c.args.table.now t c.args.frame.now c.in-Ok-read_response.said c.templates.ensures.table c.in_ok-template.ensures.layout
+    asks_long c.args.table.now t c.args.frame.now c.in-Ok-read_response.said c.template.ensures.table c.in_ok-template.ensures.layout
     c.in_ok-template.ensures.family c.in_ok-template.ensures.role (sym (rw c.in-Ok.ensures.view at c.in-Ok-read_response.ensures)) asked in
     omega (arith, long, c.in-Ok.ensures.fits.room)
