@@ -28,7 +28,8 @@ use Rattle.t7_acts.proofs.Sends.{genuine_kept, sent_kept}
 use Rattle.t7_acts.proofs.Stepping.{all_put}
 use Rattle.t7_drill.specs.Entering.{accepted_in, day_asked, due_bytes, handed}
 use Rattle.t7_drill.specs.Feeding.{Feeding, all_delivered, cast, cast_all, delivered}
-use Rattle.t7_drill.specs.Worlds.{World, asked, beat_bytes, beaten, caught_up, counted, entered, first_in, first_phase, logged_on, new_world, opened, rotated}
+use Rattle.t7_drill.specs.Worlds.{World, beat_bytes, beaten, caught_up, counted, entered, first_in, first_phase, logged_on, new_world, opened}
+use Rattle.t7_drill.specs.Worlds.{requested, rotated}
 use Rattle.t7_drill.specs.Worlds.{second_phase, sent_off, snap_bytes, snap_on, snapped, step, to_send}
 use Rattle.t7_script.specs.Draws.{drawn}
 
@@ -140,7 +141,7 @@ module _ (terms : Terms) where
       (sym (ap (λ (s : Setting). map (datagram_bytes s.layouts s.listing.segment) (due day)) is.setting))
       (subst (λ (l : List (List ℕ)). AreAmong l (live_bytes terms (due day))) is.whole (among_back put (live_bytes terms (due day))))
 
-  pub asked_follows : StayInStep → (conn : ℕ) (request : Request) (w : World) → Follows terms w → Follows terms (asked conn request w)
+  pub asked_follows : StayInStep → (conn : ℕ) (request : Request) (w : World) → Follows terms w → Follows terms (requested conn request w)
   asked_follows laws conn request w f =
       let event = Bytes conn (request_bytes w.day.setting.layouts request) 0 in
       let day = day_asked conn request w.day in
@@ -285,7 +286,7 @@ module _ (terms : Terms) where
   entered_follows : StayInStep → (conn : ℕ) (request : Request) (w : World) → Follows terms w → Follows terms (counted conn (entered conn request w))
   entered_follows laws conn request w f =
       let there = asked_follows laws conn request w f in
-      let a = asked conn request w in
+      let a = requested conn request w in
       counted_by (conn == 1) (entered conn request w) (aside a a.draw a.first a.second _ there)
 
   opened_follows : StayInStep → (i : ℕ) (w : World) → Follows terms w → Follows terms (opened i w)

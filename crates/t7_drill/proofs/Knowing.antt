@@ -15,7 +15,7 @@ use Rattle.t7_layout.specs.Layouts.{Layout}
 use Rattle.t7_book.specs.Acts.{Accepts, Act, Beats, Snaps, commands_of}
 use Rattle.t7_book.specs.declared.command.Command.{Command}
 use Rattle.t7_book.specs.Orders.{BookState, empty_book, roster_of}
-use Rattle.t7_book.specs.Steps.{Step, book_after, messages, steps}
+use Rattle.t7_book.specs.Steps.{Effect, book_after, messages, steps}
 use Rattle.t7_book.specs.Trace.{trace, trace_from}
 use Rattle.t7_book.proofs.TraceLemmas.{traces_grow}
 use Rattle.t7_eobi.specs.declared.faults.PacketFault.{PacketFault}
@@ -83,7 +83,7 @@ module _ (layouts : List Layout) (limit most : ℕ) where
       let said = messages (steps book command) in
       let runs = cut_whole (message_size layouts) (room_in layouts limit) said in
       let all = length-append (steps book command) (trace_from (book_after book command) (commands_of acts)) in
-      let count = length-map (steps book command) (λ (s : Step). s.0) in
+      let count = length-map (steps book command) (λ (s : Effect). s.0) in
       let whole = ap (λ (l : List Public). length l) runs in
       All-append (λ (d : Datagram). LivesMost most d.items) (shipped number first _) _
       (shipped_most most number first _ (omega arith))
@@ -157,7 +157,7 @@ first_names most (x ∷ xs) f all next = (all.0, next xs all.1)
 last_grows : (listing : Listing) (cs more : List Command) → last_of listing cs ≤ last_of listing (cs ++ more)
 last_grows listing cs more =
     let split = (traces_grow listing cs more).messages in
-    let long = ap (λ (l : List Step). length l) split.1 in
+    let long = ap (λ (l : List Effect). length l) split.1 in
     let both = length-append (trace listing cs) split.0 in
     omega (arith, long, both)
 

@@ -14,7 +14,7 @@ use Rattle.t7_feed.specs.Sending.{cycle_now, under_way}
 use Rattle.t7_drill.specs.Entering.{accepted_in, day_asked, due_bytes, handed, rejects_in, some_reject}
 use Rattle.t7_drill.specs.Feeding.{Fed, Feeding, Heard, all_delivered, cast_all, delivered}
 use Rattle.t7_drill.specs.Kits.{Kit, Stands, Within, world_of}
-use Rattle.t7_drill.specs.Worlds.{World, asked, cycle_ended, cycled, entered, first_phase, new_world, opened, opened_day, rotated, second_phase, sent_off}
+use Rattle.t7_drill.specs.Worlds.{World, requested, cycle_ended, cycled, entered, first_phase, new_world, opened, opened_day, rotated, second_phase, sent_off}
 use Rattle.t7_drill.specs.Worlds.{snap_bytes, snap_on, snapped, step, to_send}
 use Rattle.t7_script.specs.Draws.{drawn, next_state}
 
@@ -51,13 +51,13 @@ pub asked_on : (conn : ℕ) (request : Request) (old new : Kit) (entered : Day) 
     → Fed terms (cast_all (due_bytes entered) (record { draw = old.draw; copies = []; came = all_delivered LiveB old.copies dl }))
     new.draw new.copies new.image)
     → new.first ≡ old.first → new.second ≡ old.second → new.rejects ≡ old.rejects
-    → Heard (terms_of old.day) old.image came → Stands (asked conn request (world_of old acts came)) new
+    → Heard (terms_of old.day) old.image came → Stands (requested conn request (world_of old acts came)) new
 asked_on conn request old new entered acts came sound enters days feeds firsts seconds rejects heard =
     let f : Feeding = record { draw = old.draw; copies = []; came = all_delivered LiveB old.copies came } in
     let day : new.day ≡ handed (day_asked conn request old.day) = days ∙ ap (λ (x : Day). record x { untold = []; live = x.live + length (due x) }) enters in
     let fed = subst (λ (x : Day). Fed (terms_of old.day) (cast_all (due_bytes x) f) new.draw new.copies new.image) enters
     (feeds (terms_of old.day) came sound heard) in
-    stands_by (asked conn request (world_of old acts came)) new (sym fed.draw_is) (sym day) (sym firsts) (sym seconds) (sym rejects) (sym fed.copies_are)
+    stands_by (requested conn request (world_of old acts came)) new (sym fed.draw_is) (sym day) (sym firsts) (sym seconds) (sym rejects) (sym fed.copies_are)
     (subst (λ (x : Day). Heard (terms_of x) new.image (cast_all (due_bytes (day_asked conn request old.day)) f).came) (sym day) fed.heard)
 
 -- a snapshot datagram was sent
@@ -84,7 +84,7 @@ drawn_on w old new draw stands is = stands_by (record w { draw = draw }) new
     (subst (λ (k : Kit). Heard (terms_of k.day) k.image w.came) (sym is) stands.heard)
 
 -- a request was counted where it was rejected
-pub entered_on : (conn : ℕ) (request : Request) (w : World) (old mid new : Kit) (r : Bool) → Stands w old → Stands (asked conn request w) mid
+pub entered_on : (conn : ℕ) (request : Request) (w : World) (old mid new : Kit) (r : Bool) → Stands w old → Stands (requested conn request w) mid
     → r ≡ some_reject (day_asked conn request old.day).waiting → new ≡ record mid { rejects = mid.rejects + (if r then 1 else 0) }
     → Stands (entered conn request w) new
 entered_on conn request w old mid new r stands after said is =
@@ -99,7 +99,7 @@ entered_on conn request w old mid new r stands after said is =
     (ap (λ (x : World). x.second) after.is ∙ sym (ap (λ (k : Kit). k.second) is))
     (ap (λ n. n + rejects_in (day_asked conn request w.day).waiting) many ∙ ap (λ n. mid.rejects + n) one ∙ sym (ap (λ (k : Kit). k.rejects) is))
     (ap (λ (x : World). x.copies) after.is ∙ sym (ap (λ (k : Kit). k.copies) is))
-    (subst (λ (k : Kit). Heard (terms_of k.day) k.image (asked conn request w).came) (sym is) after.heard)
+    (subst (λ (k : Kit). Heard (terms_of k.day) k.image (requested conn request w).came) (sym is) after.heard)
 
 one_at_most : (b : Bool) → (if b then 1 else 0) ≤ 1
 one_at_most true = omega arith

@@ -35,15 +35,15 @@ pub record World : Type 0 where
   pub came : List Delivery
 
 -- A request goes through the exchange. The B copies that were kept from the request before are delivered, and then its own datagrams go out.
-abbrev pub asked : ℕ → Request → World → World
-asked conn request w =
+abbrev pub requested : ℕ → Request → World → World
+requested conn request w =
     let day = day_asked conn request w.day in
     let f = cast_all (due_bytes day) (record { draw = w.draw; copies = []; came = all_delivered LiveB w.copies w.came }) in
     record w { draw = f.draw; day = handed day; copies = f.copies; acts = w.acts ++ newly w.day day; came = f.came }
 
 -- a request goes through the exchange, and is counted where it is rejected
 abbrev pub entered : ℕ → Request → World → World
-entered conn request w = record (asked conn request w) { rejects = w.rejects + rejects_in (day_asked conn request w.day).waiting }
+entered conn request w = record (requested conn request w) { rejects = w.rejects + rejects_in (day_asked conn request w.day).waiting }
 
 -- the number of a session's next request, which stands on connection 1 or 2
 abbrev pub number_on : ℕ → World → ℕ

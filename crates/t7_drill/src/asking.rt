@@ -1,4 +1,4 @@
-// The requests of the drill.
+//! The requests of the drill.
 
 ghost use Rattle.std.specs.Prelude.{◌≡◌, ◌≤◌, ◌<◌, ◌≤ℤ◌, pos};
 ghost use Rattle.t7_eti.specs.Requests.{IsAskable};

@@ -1,4 +1,4 @@
-// The day of the drill.
+//! The day of the drill.
 
 ghost use Rattle.std.specs.Prelude.{◌≡◌, ◌≢◌, ◌↔◌, IsTrue, ◌+◌, ◌++◌, ◌<◌, ◌≤◌, ℕ, [], length, IfOk, OnOk, if◌then◌else◌};
 ghost use Rattle.t7_base.specs.declared.ids.Feed.TheVariants.{SnapB};
@@ -117,7 +117,7 @@ impl<'t> Drill<'t> {
         requires within { Within 100_000 self.old }
         requires ordinary { EachOrdinary (request_fields request.now) }
         requires askable { IsAskable request.now }
-        ensures stands { OnOk result ((w : World) → Stands w self.old → Stands (world.asked conn request.now w) self.new) }
+        ensures stands { OnOk result ((w : World) → Stands w self.old → Stands (world.requested conn request.now w) self.new) }
         ensures rejected { IfOk result (λ r. r ≡ some_reject (day_asked conn request.now self.old.day).waiting) }
         ensures snaps { OnOk result (self.new.day.snaps ≡ self.old.day.snaps) }
         ensures within { OnOk result ((n : ℕ) → Within n self.old → Within n self.new) }

@@ -1,4 +1,4 @@
-// Requests, as they go through the exchange.
+//! Requests, as they go through the exchange.
 
 ghost use Rattle.std.specs.Prelude.{◌≡◌, ◌≤◌, ◌<◌, ◌++◌, [], length, take, OnOk, IfOk};
 ghost use Rattle.t7_eti.specs.Requests.{IsAskable};

@@ -1,4 +1,4 @@
-// Datagrams, as they reach the member.
+//! Datagrams, as they reach the member.
 
 ghost use Rattle.std.specs.Prelude.{◌≡◌, ◌==◌, ◌+◌, ◌++◌, ◌∷◌, [], List, length, OnOk, if◌then◌else◌};
 ghost use Rattle.t7_base.specs.declared.ids.Feed.TheVariants.{LiveB};
@@ -9,7 +9,7 @@ ghost use Rattle.t7_drill.specs.Entering.{due_bytes};
 ghost use Rattle.t7_drill.specs.Feeding.{Fed, Heard, all_delivered, came_after, cast_all, copies_after, delivered};
 
 use std::alloc::{AllocError, Global};
-use t7_base::{Feed, Octets};
+use t7_base::{Feed, MOST_DATAGRAM, Octets};
 use t7_exchange::Exchange;
 use t7_member::{Member, what_is_fresh_is_new};
 use t7_script::Draw;
@@ -89,7 +89,7 @@ fn send_due(
         → Fed terms (cast_all (due_bytes exchange.old) (record { draw = draw.old; copies = copies.old.items; came = came }))
         draw.new copies.new.items member.new) }
 {
-    let mut datagram = [0; 1472];
+    let mut datagram = [0; MOST_DATAGRAM];
     while let Some(sent) = exchange.next_datagram(&mut datagram) {
         cast(alloc, member, draw, copies, &datagram[..sent.len])?;
     }

@@ -1,4 +1,4 @@
-// The command `drill`.
+//! The command `drill`.
 
 ghost use Rattle.std.specs.Prelude.{◌≡◌, ◌≤◌, ℕ, Err, IfErr, IfOk};
 ghost use Rattle.t7_base.specs.Outside.{Grew, Rose};

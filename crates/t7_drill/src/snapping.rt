@@ -1,4 +1,4 @@
-// Snapshot datagrams and heartbeats, as they reach the member.
+//! Snapshot datagrams and heartbeats, as they reach the member.
 
 ghost use Rattle.std.specs.Prelude.{◌≡◌, ◌==◌, ◌+◌, ◌<◌, ◌≤◌, ◌∷◌, [], List, length, if◌then◌else◌};
 ghost use Rattle.t7_entry.specs.Days.{last_of};
@@ -11,7 +11,7 @@ ghost use Rattle.t7_drill.specs.Worlds.{beat_bytes, snap_bytes, snapped, to_send
 ghost use Rattle.t7_base.specs.declared.ids.Feed.TheVariants.{LiveA};
 
 use crate::feeding::{deliver, deliver_unless};
-use t7_base::Feed;
+use t7_base::{Feed, MOST_DATAGRAM};
 use t7_entry::last_markets_are_books;
 use t7_exchange::Exchange;
 use t7_member::Member;
@@ -36,7 +36,7 @@ pub fn snap(exchange: &mut Exchange<'_>, member: &mut Member<'_>, feed: Feed, nu
         → Heard terms member.new (if number == 0 then came else delivered feed (snap_bytes exchange.old) came) }
 {
     cycles_are_short(exchange);
-    let mut datagram = [0; 1472];
+    let mut datagram = [0; MOST_DATAGRAM];
     let sent = exchange.snap(&mut datagram);
     deliver_unless(member, feed, &datagram[..sent.len], number);
 }
@@ -49,7 +49,7 @@ pub fn beat(exchange: &mut Exchange<'_>, member: &mut Member<'_>)
     ensures heard { (terms : Terms) (came : List Delivery) → AreTerms terms → Heard terms member.old came
         → Heard terms member.new (delivered LiveA (beat_bytes exchange.old) came) }
 {
-    let mut datagram = [0; 1472];
+    let mut datagram = [0; MOST_DATAGRAM];
     let sent = exchange.beat(&mut datagram);
     deliver(member, Feed::LiveA, &datagram[..sent.len]);
 }

@@ -1,4 +1,4 @@
-// The lines of the drill.
+//! The lines of the drill.
 
 ghost use Rattle.std.specs.Prelude.{◌≡◌, ◌+◌, ◌≤◌, ◌++◌, ◌∷◌, [], OnOk, IfOk, length};
 ghost use Rattle.t7_book.specs.Orders.{shown};

@@ -6,7 +6,7 @@ use Rattle.t7_feed.specs.Arrivals.{Terms}
 use Rattle.t7_outcome.specs.declared.ending.Stop.{Stop}
 use Rattle.t7_outcome.specs.declared.ending.Stop.TheVariants.{Memory, Script, WriteFault}
 use Rattle.t7_outcome.specs.Outcome.{Outcome, Wrote}
-use Rattle.t7_outcome.specs.Steps.{Goes, Step, Stopped, StoppedAt, Stops, WentOn}
+use Rattle.t7_outcome.specs.Steps.{Goes, LineStep, Stopped, StoppedAt, Stops, WentOn}
 use Rattle.t7_outcome.proofs.Lines.{fronts_all, fronts_none}
 use Rattle.t7_replay.specs.Following.{Follows}
 use Rattle.t7_replay.specs.Kits.{Does, Kit, OfLine, Refuses, Stands}
@@ -16,7 +16,7 @@ use Rattle.t7_replay.specs.World.{World}
 use Rattle.t7_replay.proofs.Doing.{Act}
 
 -- a line that was stopped before it printed
-silent : (step : Step World Moment) (stop : Stop) → Stopped step stop → OfLine stop → StoppedAt IsReported step stop []
+silent : (step : LineStep World Moment) (stop : Stop) → Stopped step stop → OfLine stop → StoppedAt IsReported step stop []
 silent (Stops own) stop stopped of = refl
 silent (Goes state parts) Memory stopped of = ([], [], fronts_none IsReported parts, ([], refl), refl)
 silent (Goes state parts) WriteFault stopped of = absurd of
@@ -40,7 +40,7 @@ pub nothing_at : (p : Option (List ℕ)) (plain : Outcome Moment) → Grew p p (
 nothing_at p plain = grew_nothing p (Wrote IsReported plain (Err Memory)) ([], [], fronts_none IsReported plain.parts, ([], refl), refl)
 
 -- a line whose text was cut off
-cut_off : (step : Step World Moment) (text added : List ℕ) → WentOn IsReported step text → Begins added text → StoppedAt IsReported step WriteFault added
+cut_off : (step : LineStep World Moment) (text added : List ℕ) → WentOn IsReported step text → Begins added text → StoppedAt IsReported step WriteFault added
 cut_off (Goes state parts) text added wrote cut = (wrote.0, fronts_all IsReported parts wrote.0 wrote.1, subst (λ (l : List ℕ). Begins added l) wrote.2 cut)
 cut_off (Stops own) text added wrote cut = absurd wrote
 

@@ -29,7 +29,7 @@ use Rattle.t7_outcome.specs.declared.ending.ScriptWhy.TheVariants as why
 use Rattle.t7_outcome.specs.declared.ending.Stop.{Stop}
 use Rattle.t7_outcome.specs.declared.ending.Stop.TheVariants.{Script}
 use Rattle.t7_outcome.specs.Outcome.{Shows, text_of}
-use Rattle.t7_outcome.specs.Steps.{Goes, GoesTo, Step, Stops, WentOn}
+use Rattle.t7_outcome.specs.Steps.{Goes, GoesTo, LineStep, Stops, WentOn}
 use Rattle.t7_outcome.proofs.Lines.{spelled_shown}
 use Rattle.t7_report.specs.Gathered.{gathered_lines}
 use Rattle.t7_script.specs.declared.event.Event.TheVariants as kind
@@ -88,7 +88,7 @@ pub order_as : (kit : Kit) (calling : Calling) (security : ℤ) (side : Side) (p
 order_as kit calling security side price quantity client is logged terms world stands =
     let order = order_of security side price quantity client in
     ap (ordering world order) (caller_of terms world kit (Some calling) stands is)
-    ∙ ap (λ (b : Bool). let s : Step World Moment = if b then Goes (record world { caller = Some (with_order calling order) }) [] else client_fault world in s) logged
+    ∙ ap (λ (b : Bool). let s : LineStep World Moment = if b then Goes (record world { caller = Some (with_order calling order) }) [] else client_fault world in s) logged
 
 pub order_off : (kit : Kit) (calling : Calling) (security : ℤ) (side : Side) (price : ℤ) (quantity client : ℕ) → kit.caller ≡ Some calling → calling.client.logged_on ≡ false
     → (terms : Terms) (world : World) → Stands terms world kit
@@ -96,7 +96,7 @@ pub order_off : (kit : Kit) (calling : Calling) (security : ℤ) (side : Side) (
 order_off kit calling security side price quantity client is off terms world stands =
     let order = order_of security side price quantity client in
     ap (ordering world order) (caller_of terms world kit (Some calling) stands is)
-    ∙ ap (λ (b : Bool). let s : Step World Moment = if b then Goes (record world { caller = Some (with_order calling order) }) [] else client_fault world in s) off
+    ∙ ap (λ (b : Bool). let s : LineStep World Moment = if b then Goes (record world { caller = Some (with_order calling order) }) [] else client_fault world in s) off
 
 pub order_none : (kit : Kit) (security : ℤ) (side : Side) (price : ℤ) (quantity client : ℕ) → kit.caller ≡ None
     → (terms : Terms) (world : World) → Stands terms world kit
@@ -109,15 +109,17 @@ pub down_as : (kit : Kit) (calling : Calling) (count : Option ℕ) (n : ℕ) →
     → done_by terms world (kind.Down count) ≡ Goes (record world { caller = Some (came_down n calling) }) []
 down_as kit calling count n is so fits terms world stands =
     ap (going_down world count) (caller_of terms world kit (Some calling) stands is)
-    ∙ ap (λ (m : ℕ). let s : Step World Moment = if is_too_much m calling then bytes_fault world else Goes (record world { caller = Some (came_down m calling) }) [] in s) (sym so)
-    ∙ ap (λ (b : Bool). let s : Step World Moment = if b then bytes_fault world else Goes (record world { caller = Some (came_down n calling) }) [] in s) fits
+    ∙ ap (λ (m : ℕ). let s : LineStep World Moment = if is_too_much m calling then bytes_fault world else Goes (record world { caller = Some (came_down m calling) }) [] in s) (sym so)
+    ∙ ap (λ (b : Bool). let s : LineStep World Moment =
+    if b then bytes_fault world else Goes (record world { caller = Some (came_down n calling) }) [] in s) fits
 
 pub down_over : (kit : Kit) (calling : Calling) (count : Option ℕ) → kit.caller ≡ Some calling → is_too_much (unwrap_or count (length calling.coming)) calling ≡ true
     → (terms : Terms) (world : World) → Stands terms world kit → done_by terms world (kind.Down count) ≡ Stops (Script world.row why.Bytes)
 down_over kit calling count is over terms world stands =
     let n = unwrap_or count (length calling.coming) in
     ap (going_down world count) (caller_of terms world kit (Some calling) stands is)
-    ∙ ap (λ (b : Bool). let s : Step World Moment = if b then bytes_fault world else Goes (record world { caller = Some (came_down n calling) }) [] in s) over
+    ∙ ap (λ (b : Bool). let s : LineStep World Moment =
+    if b then bytes_fault world else Goes (record world { caller = Some (came_down n calling) }) [] in s) over
 
 pub down_none : (kit : Kit) (count : Option ℕ) → kit.caller ≡ None
     → (terms : Terms) (world : World) → Stands terms world kit → done_by terms world (kind.Down count) ≡ Stops (Script world.row why.Client)
@@ -163,8 +165,8 @@ gathered_by terms acts said state calling commands is = by calling.client.dialed
 pub list_done : (kit : Kit) (calling : Calling) (text : List ℕ) → kit.caller ≡ Some calling
     → text ≡ text_of (gathered_lines (is_recovered calling.client) calling.client.gathered) → Does (λ terms world. done_by terms world kind.List) kit kit text
 list_done kit calling text is said = record {
-  went = λ terms world stands. subst (λ (s : Step World Moment). GoesTo s (λ after. Stands terms after kit)) (sym (listed terms world stands)) stands;
-  wrote = λ terms world stands follows. subst (λ (s : Step World Moment). WentOn IsReported s text) (sym (listed terms world stands)) (
+  went = λ terms world stands. subst (λ (s : LineStep World Moment). GoesTo s (λ after. Stands terms after kit)) (sym (listed terms world stands)) stands;
+  wrote = λ terms world stands follows. subst (λ (s : LineStep World Moment). WentOn IsReported s text) (sym (listed terms world stands)) (
     gathered_lines (is_recovered calling.client) calling.client.gathered,
     spelled_shown IsReported (AtList (gathering_of terms world calling)) (gathered_lines (is_recovered calling.client) calling.client.gathered)
         (record {
@@ -238,7 +240,7 @@ abbrev pub dialed_in : Terms → World → ℕ → ℕ → Option Calling
 dialed_in terms world conn session = Some (dials conn (client_for terms.layouts session world.caller))
 
 module _ (kit : Kit) (conn session : ℕ) where
-  abbrev enters : Terms → World → Step World Moment
+  abbrev enters : Terms → World → LineStep World Moment
   enters terms world = entered terms (record world { caller = dialed_in terms world conn session; said = [] }) (entry.Opened conn)
 
   pub dial_as : IsShut kit.day conn → any_on_line kit.caller ≡ false → is_for session kit.caller ≡ true

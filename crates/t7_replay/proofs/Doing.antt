@@ -4,7 +4,7 @@ use Rattle.t7_outcome.specs.declared.ending.Stop.{Stop}
 use Rattle.t7_outcome.specs.declared.ending.Stop.TheVariants.{Memory, Script}
 use Rattle.t7_outcome.specs.declared.ending.ScriptWhy.{ScriptWhy}
 use Rattle.t7_outcome.specs.Outcome.{says, text_of}
-use Rattle.t7_outcome.specs.Steps.{Goes, GoesTo, Step, Stopped, Stops, WentOn}
+use Rattle.t7_outcome.specs.Steps.{Goes, GoesTo, LineStep, Stopped, Stops, WentOn}
 use Rattle.t7_outcome.proofs.Lines.{spelled_says}
 use Rattle.t7_feed.specs.Arrivals.{Terms}
 use Rattle.t7_replay.specs.Kits.{Does, Enters, Kit, OfLine, Refuses, Stands}
@@ -13,21 +13,22 @@ use Rattle.t7_replay.specs.World.{World}
 
 -- a step of each world
 abbrev pub Act : Type 0
-Act = Terms → World → Step World Moment
+Act = Terms → World → LineStep World Moment
 
 -- the same step, where the program stands
 pub does_as : (step other : Act) (old new : Kit) (text : List ℕ) → ((terms : Terms) (world : World) → Stands terms world old → step terms world ≡ other terms world)
     → Does step old new text → Does other old new text
 does_as step other old new text same does = record {
-  went = λ terms world stands. subst (λ (s : Step World Moment). GoesTo s (λ after. Stands terms after new)) (same terms world stands) (does.went terms world stands);
-  wrote = λ terms world stands follows. subst (λ (s : Step World Moment). WentOn IsReported s text) (same terms world stands) (does.wrote terms world stands follows);
+  went = λ terms world stands. subst (λ (s : LineStep World Moment). GoesTo s (λ after. Stands terms after new)) (same terms world stands) (does.went terms world stands);
+  wrote = λ terms world stands follows. subst (λ (s : LineStep World Moment). WentOn IsReported s text) (same terms world stands) (does.wrote terms world stands follows);
 }
 
 pub enters_as : (step other : Act) (old new : Kit) (text : List ℕ) → ((terms : Terms) (world : World) → Stands terms world old → step terms world ≡ other terms world)
     → Enters step old new text → Does other old new text
 enters_as step other old new text same does = record {
-  went = λ terms world stands. subst (λ (s : Step World Moment). GoesTo s (λ after. Stands terms after new)) (same terms world stands) (does.went terms world stands);
-  wrote = λ terms world stands follows. subst (λ (s : Step World Moment). WentOn IsReported s text) (same terms world stands) (does.wrote terms world stands);
+  went = λ terms world stands. subst (λ (s : LineStep World Moment). GoesTo s (λ after. Stands terms after new)) (same terms world stands) (does.went terms world stands);
+  wrote = λ terms world stands follows. subst (λ (s : LineStep World Moment). WentOn IsReported s text) (same terms world stands)
+      (does.wrote terms world stands);
 }
 
 -- a step that leads to a world and prints lines
@@ -37,8 +38,8 @@ pub does_says : (step : Act) (after : Terms → World → World) (lines : Terms 
     → ((terms : Terms) (world : World) → Stands terms world old → text ≡ text_of (lines terms world))
     → Does step old new text
 does_says step after lines old new text is stands said = record {
-  went = λ terms world in_world. subst (λ (s : Step World Moment). GoesTo s (λ now. Stands terms now new)) (sym (is terms world in_world)) (stands terms world in_world);
-  wrote = λ terms world in_world follows. subst (λ (s : Step World Moment). WentOn IsReported s text) (sym (is terms world in_world))
+  went = λ terms world in_world. subst (λ (s : LineStep World Moment). GoesTo s (λ now. Stands terms now new)) (sym (is terms world in_world)) (stands terms world in_world);
+  wrote = λ terms world in_world follows. subst (λ (s : LineStep World Moment). WentOn IsReported s text) (sym (is terms world in_world))
       (lines terms world, spelled_says IsReported (lines terms world), said terms world in_world);
 }
 
@@ -54,7 +55,7 @@ pub refuses_line : (step : Act) (old : Kit) (why : ScriptWhy) (stop : Stop) → 
     → ((terms : Terms) (world : World) → Stands terms world old → step terms world ≡ Stops (Script world.row why)) → Refuses step old stop
 refuses_line step old why stop is same = record {
   stopped = λ terms world stands. subst (λ (s : Stop). Stopped (step terms world) s) (sym is)
-      (subst (λ (s : Step World Moment). Stopped s (Script old.row why)) (sym (same terms world stands)) (ap (λ (n : ℕ). Script n why) stands.row));
+      (subst (λ (s : LineStep World Moment). Stopped s (Script old.row why)) (sym (same terms world stands)) (ap (λ (n : ℕ). Script n why) stands.row));
   of_line = subst OfLine (sym is) tt;
 }
 

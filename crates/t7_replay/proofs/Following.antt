@@ -39,7 +39,7 @@ use Rattle.t7_script.specs.declared.event.LineRefusal.{LineRefusal}
 use Rattle.t7_script.specs.Events.{Setting as Reading, event_of}
 use Rattle.t7_outcome.specs.declared.ending.ScriptWhy.TheVariants.{Long}
 use Rattle.t7_outcome.specs.declared.ending.Stop.TheVariants.{Script}
-use Rattle.t7_outcome.specs.Steps.{Goes, Step, Stops, Went}
+use Rattle.t7_outcome.specs.Steps.{Goes, LineStep, Stops, Went}
 use Rattle.t7_dialog.specs.Asking.{AreAsked}
 use Rattle.t7_dialog.specs.Coming.{ClientsAsk, Comes, Queues, WhatComesIsGathered}
 use Rattle.t7_dialog.specs.Reaching.{AreInStep, KeepsUp, Reached, reached_by, unanswered}
@@ -63,15 +63,15 @@ pub record Laws : Type 0 where
   pub asks : ClientsAsk
 
 -- where a step goes on
-abbrev pub IfGoes : Step World Moment → (World → Type 0) → Type 0
+abbrev pub IfGoes : LineStep World Moment → (World → Type 0) → Type 0
 IfGoes (Goes state parts) P = P state
 IfGoes (Stops stop) P = Unit {0}
 
-pub goes_on : (step : Step World Moment) (P : World → Type 0) (after : World) → Went step after → IfGoes step P → P after
+pub goes_on : (step : LineStep World Moment) (P : World → Type 0) (after : World) → Went step after → IfGoes step P → P after
 goes_on (Goes state parts) P after went is = subst P (sym went) is
 goes_on (Stops stop) P after went is = absurd went
 
-pub if_test : (b : Bool) (x y : Step World Moment) (P : World → Type 0) → (b ≡ true → IfGoes x P) → (b ≡ false → IfGoes y P) → IfGoes (cond b x y) P
+pub if_test : (b : Bool) (x y : LineStep World Moment) (P : World → Type 0) → (b ≡ true → IfGoes x P) → (b ≡ false → IfGoes y P) → IfGoes (cond b x y) P
 if_test true x y P one other = one refl
 if_test false x y P one other = other refl
 

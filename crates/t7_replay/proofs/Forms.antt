@@ -11,7 +11,8 @@ use Rattle.t7_records.specs.Numbers.{is_decimal_to, value_of}
 use Rattle.t7_script.specs.declared.event.Event.{Event}
 use Rattle.t7_script.specs.declared.event.Event.TheVariants as kind
 use Rattle.t7_script.specs.declared.event.LineRefusal.{LineRefusal}
-use Rattle.t7_script.specs.Cells.{cells_of, client, connection, count, feed, forged, moment, number, number_within, one_of, order_of, piece, price, quantity}
+use Rattle.t7_script.specs.Cells.{byte_count, cells_of, client, connection, feed, forged, moment, number, number_within, one_of, order_of, piece}
+use Rattle.t7_script.specs.Cells.{price, quantity}
 use Rattle.t7_script.specs.Cells.{security, session, side, two_of}
 use Rattle.t7_script.specs.Events.{Setting, alone, both, client_word, event_by, event_in, event_of, member_word, or_number, ordered, with_cells, word_of}
 use Rattle.t7_replay.specs.Kits.{IsOfForm}
@@ -146,8 +147,9 @@ module _ (setting : Setting) (first : List ℕ) (cells : List (List ℕ)) where
       (within 1 100_000_000_000_000_000 (drop 1 o.price)) (within 0 100_000_000_000_000_000 o.price))
       (as_quantity (quantity o.quantity) (within 1 1_000_000_000_000_000 o.quantity))
       (as_client (client o.client) (within 0 18_446_744_073_709_551_614 o.client))))
-      (if_reads (λ w. event_by setting w cells) (bytes_eq first (codes "UP")) _ _ (from_cells (one_of cells) _ (λ c. from_map kind.Up (λ a. tt) (count c)))
-      (if_reads (λ w. event_by setting w cells) (bytes_eq first (codes "DOWN")) _ _ (from_cells (one_of cells) _ (λ c. from_map kind.Down (λ a. tt) (count c)))
+      (if_reads (λ w. event_by setting w cells) (bytes_eq first (codes "UP")) _ _ (from_cells (one_of cells) _ (λ c. from_map kind.Up (λ a. tt) (byte_count c)))
+      (if_reads (λ w. event_by setting w cells) (bytes_eq first (codes "DOWN")) _ _
+      (from_cells (one_of cells) _ (λ c. from_map kind.Down (λ a. tt) (byte_count c)))
       (if_reads (λ w. event_by setting w cells) (bytes_eq first (codes "LIST")) _ _ (from_alone kind.List tt cells) tt))))
 
   from_member : ReadsFormed (event_by setting (option_or (member_word first) (client_word first)) cells)

@@ -8,7 +8,7 @@ use Rattle.t7_entry.specs.Stalls.{IsOpen, IsShut, opens}
 use Rattle.t7_entry.specs.State.{State}
 use Rattle.t7_feed.specs.Arrivals.{Terms}
 use Rattle.t7_outcome.specs.declared.ending.Stop.{Stop}
-use Rattle.t7_outcome.specs.Steps.{GoesTo, Step, WentOn}
+use Rattle.t7_outcome.specs.Steps.{GoesTo, LineStep, WentOn}
 use Rattle.t7_script.specs.declared.event.Event.TheVariants as kind
 use Rattle.t7_eti.specs.declared.response.Response.{Response}
 use Rattle.t7_dialog.specs.Saying.{AreSaid}
@@ -153,10 +153,10 @@ pub after_call : {T : Type 0} (items : T → List ℕ) (other : Act) (before mid
 after_call items other before mid new own caller now event (Err stop) done is owns few sound fine same = tt
 after_call items other before mid new own caller now event (Ok text) done is owns few sound fine same =
     let did = done (record before { caller = own }) event is in record {
-      went = λ terms world stands. subst (λ (s : Step World Moment). GoesTo s (λ after. Stands terms after new)) (same terms world stands)
+      went = λ terms world stands. subst (λ (s : LineStep World Moment). GoesTo s (λ after. Stands terms after new)) (same terms world stands)
           (did.went terms (record world { caller = caller terms world; said = now world })
           (at_caller terms world before (caller terms world) own (now world) (owns terms world stands) (few terms world stands) (sound terms world stands) (fine terms world stands) stands));
-      wrote = λ terms world stands follows. subst (λ (s : Step World Moment). WentOn IsReported s (items text)) (same terms world stands)
+      wrote = λ terms world stands follows. subst (λ (s : LineStep World Moment). WentOn IsReported s (items text)) (same terms world stands)
           (did.wrote terms (record world { caller = caller terms world; said = now world })
           (at_caller terms world before (caller terms world) own (now world) (owns terms world stands) (few terms world stands) (sound terms world stands) (fine terms world stands) stands));
     }

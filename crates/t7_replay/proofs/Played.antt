@@ -9,7 +9,7 @@ use Rattle.t7_outcome.specs.declared.ending.Finish.TheVariants.{End}
 use Rattle.t7_outcome.specs.declared.ending.Stop.{Stop}
 use Rattle.t7_outcome.specs.Ending.{Ended}
 use Rattle.t7_outcome.specs.Outcome.{Ends, Outcome, Wrote}
-use Rattle.t7_outcome.specs.Steps.{GoesTo, Step, Stopped, StoppedAt, WentOn}
+use Rattle.t7_outcome.specs.Steps.{GoesTo, LineStep, Stopped, StoppedAt, WentOn}
 use Rattle.t7_outcome.proofs.Lines.{SoFar, nothing_yet}
 use Rattle.t7_outcome.proofs.Stepping.{grew_all, grew_on, grew_stopped, stopped_end, went_end, went_to}
 use Rattle.t7_dialog.specs.Saying.{AreSaid}
@@ -62,7 +62,7 @@ pub playing_next : Laws → (terms : Terms) (kit new : Kit) (all : List (List �
     → Playing terms new lines whole before later
 playing_next laws terms kit new all line lines whole before now later is playing went wrote =
     let world = playing.world in
-    let step : Step World Moment = step_at terms world line in
+    let step : LineStep World Moment = step_at terms world line in
     let next : World → Outcome Moment = λ (after : World). played terms after lines in
     let led = went_to IsReported step (λ after. Stands terms after new) (went terms world playing.stands) in
     let whole_is = ap (played terms world) is in record {

@@ -7,7 +7,7 @@ use Rattle.t7_member.specs.Keeping.{Image, Keeps}
 use Rattle.t7_outcome.specs.declared.ending.ScriptWhy.TheVariants.{Long}
 use Rattle.t7_outcome.specs.declared.ending.Stop.{Stop}
 use Rattle.t7_outcome.specs.declared.ending.Stop.TheVariants.{Memory, Script}
-use Rattle.t7_outcome.specs.Steps.{GoesTo, Step, Stopped, Stops, WentOn}
+use Rattle.t7_outcome.specs.Steps.{GoesTo, LineStep, Stopped, Stops, WentOn}
 use Rattle.t7_script.specs.declared.event.Event.{Event}
 use Rattle.t7_script.specs.declared.event.LineRefusal.{LineRefusal}
 use Rattle.t7_script.specs.declared.event.LineRefusal.TheVariants as refusal
@@ -44,7 +44,7 @@ pub line_refused : {T : Type 0} (kit : Kit) (line : List ℕ) (event : Event) (r
     → IfErr r (Refuses (λ terms world. done_by terms world event) kit) → IfErr r (Refuses (λ terms world. done_read terms world line) kit)
 line_refused kit line event (Ok text) is refuses = tt
 line_refused kit line event (Err stop) is refuses = record {
-  stopped = λ terms world stands. subst (λ (s : Step World Moment). Stopped s stop) (event_as kit line (Ok event) is terms world stands) (refuses.stopped terms world stands);
+  stopped = λ terms world stands. subst (λ (s : LineStep World Moment). Stopped s stop) (event_as kit line (Ok event) is terms world stands) (refuses.stopped terms world stands);
   of_line = refuses.of_line;
 }
 
@@ -54,7 +54,7 @@ of_line row refusal.Event = tt
 of_line row refusal.Number = tt
 of_line row refusal.Memory = tt
 
-stops_so : (kit : Kit) (why : LineRefusal) (world : World) → kit.row ≡ world.row → Stopped (let s : Step World Moment = Stops (stop_of world.row why) in s) (stop_of kit.row why)
+stops_so : (kit : Kit) (why : LineRefusal) (world : World) → kit.row ≡ world.row → Stopped (let s : LineStep World Moment = Stops (stop_of world.row why) in s) (stop_of kit.row why)
 stops_so kit refusal.Event world same = ap (λ (n : ℕ). stop_of n refusal.Event) same
 stops_so kit refusal.Number world same = ap (λ (n : ℕ). stop_of n refusal.Number) same
 stops_so kit refusal.Memory world same = tt
@@ -68,7 +68,7 @@ no_event kit line why stop (inl memory) is =
     stop_in row (Ok event) = Memory
     stop_in row (Err why) = stop_of row why
 no_event kit line why stop (inr same) is = record {
-  stopped = λ terms world stands. subst (λ (s : Step World Moment). Stopped s stop) (event_as kit line (Err why) (sym same) terms world stands)
+  stopped = λ terms world stands. subst (λ (s : LineStep World Moment). Stopped s stop) (event_as kit line (Err why) (sym same) terms world stands)
       (subst (λ (s : Stop). Stopped (read_as terms world (Err why)) s) (sym is) (stops_so kit why world stands.row));
   of_line = subst OfLine (sym is) (of_line kit.row why);
 }
@@ -119,9 +119,9 @@ pub next_done : {T : Type 0} (items : T → List ℕ) (kit mid new : Kit) (line 
     → IfOk r (λ text. Does (λ terms world. step_at terms world line) kit new (items text))
 next_done items kit mid new line (Err stop) done is few = tt
 next_done items kit mid new line (Ok text) done is few = record {
-  went = λ terms world stands. subst (λ (s : Step World Moment). GoesTo s (λ after. Stands terms after new)) (sym (step_as terms world line false (in_day terms world kit stands few)))
+  went = λ terms world stands. subst (λ (s : LineStep World Moment). GoesTo s (λ after. Stands terms after new)) (sym (step_as terms world line false (in_day terms world kit stands few)))
       (done.went terms (on_next_line world) (stands_next terms world kit mid stands is few));
-  wrote = λ terms world stands follows. subst (λ (s : Step World Moment). WentOn IsReported s (items text)) (sym (step_as terms world line false (in_day terms world kit stands few)))
+  wrote = λ terms world stands follows. subst (λ (s : LineStep World Moment). WentOn IsReported s (items text)) (sym (step_as terms world line false (in_day terms world kit stands few)))
       (done.wrote terms (on_next_line world) (stands_next terms world kit mid stands is few) follows);
 }
 
@@ -129,7 +129,8 @@ pub next_refused : {T : Type 0} (kit mid : Kit) (line : List ℕ) (r : Result T 
     → mid ≡ record kit { row = kit.row + 1 } → kit.row + 1 ≤ 200_000 → IfErr r (Refuses (λ terms world. step_at terms world line) kit)
 next_refused kit mid line (Ok text) refuses is few = tt
 next_refused kit mid line (Err stop) refuses is few = record {
-  stopped = λ terms world stands. subst (λ (s : Step World Moment). Stopped s stop) (sym (step_as terms world line false (in_day terms world kit stands few)))
+  stopped = λ terms world stands. subst (λ (s : LineStep World Moment). Stopped s stop)
+      (sym (step_as terms world line false (in_day terms world kit stands few)))
       (refuses.stopped terms (on_next_line world) (stands_next terms world kit mid stands is few));
   of_line = refuses.of_line;
 }
@@ -137,7 +138,7 @@ next_refused kit mid line (Err stop) refuses is few = record {
 pub too_long : (kit : Kit) (line : List ℕ) (stop : Stop) → stop ≡ Script (kit.row + 1) Long → 200_000 < kit.row + 1 → Refuses (λ terms world. step_at terms world line) kit stop
 too_long kit line stop is many = record {
   stopped = λ terms world stands. subst (λ (s : Stop). Stopped (step_at terms world line) s) (sym is)
-      (subst (λ (s : Step World Moment). Stopped s (Script (kit.row + 1) Long)) (sym (step_as terms world line true (past_day terms world kit stands many)))
+      (subst (λ (s : LineStep World Moment). Stopped s (Script (kit.row + 1) Long)) (sym (step_as terms world line true (past_day terms world kit stands many)))
       (ap (λ (n : ℕ). Script (n + 1) Long) stands.row));
   of_line = subst OfLine (sym is) tt;
 }

@@ -22,7 +22,7 @@ use Rattle.t7_member.specs.declared.member.Delivered.TheVariants.{Bad, Taken}
 use Rattle.t7_outcome.specs.declared.ending.Stop.{Stop}
 use Rattle.t7_outcome.specs.declared.ending.Stop.TheVariants.{Memory, Script}
 use Rattle.t7_outcome.specs.Outcome.{text_of}
-use Rattle.t7_outcome.specs.Steps.{GoesTo, Step, Stopped, WentOn}
+use Rattle.t7_outcome.specs.Steps.{GoesTo, LineStep, Stopped, WentOn}
 use Rattle.t7_script.specs.declared.event.Event.{Event}
 use Rattle.t7_script.specs.declared.event.Event.TheVariants.{Clear, Dial, Order}
 use Rattle.t7_exchange.specs.Paired.{ArePaired}
@@ -169,12 +169,12 @@ pub record Gives (feed : Feed) (bytes : List ℕ) (old new : Image) (text : List
 
 -- In each world in which the program stands, the step was done: the program stands in the world that it leads to, and, where the client follows the exchange in that
 -- world, this is the text of what it prints.
-pub record Does (step : Terms → World → Step World Moment) (old new : Kit) (text : List ℕ) : Type 0 where
+pub record Does (step : Terms → World → LineStep World Moment) (old new : Kit) (text : List ℕ) : Type 0 where
   pub went : (terms : Terms) (world : World) → Stands terms world old → GoesTo (step terms world) (λ after. Stands terms after new)
   pub wrote : (terms : Terms) (world : World) → Stands terms world old → Follows terms world → WentOn IsReported (step terms world) text
 
 -- the same of a step whose text needs nothing of the client
-pub record Enters (step : Terms → World → Step World Moment) (old new : Kit) (text : List ℕ) : Type 0 where
+pub record Enters (step : Terms → World → LineStep World Moment) (old new : Kit) (text : List ℕ) : Type 0 where
   pub went : (terms : Terms) (world : World) → Stands terms world old → GoesTo (step terms world) (λ after. Stands terms after new)
   pub wrote : (terms : Terms) (world : World) → Stands terms world old → WentOn IsReported (step terms world) text
 
@@ -185,6 +185,6 @@ OfLine Memory = Unit {0}
 OfLine _ = ⊥
 
 -- In each of these worlds the step stopped the script, or memory was wanting for it.
-pub record Refuses (step : Terms → World → Step World Moment) (old : Kit) (stop : Stop) : Type 0 where
+pub record Refuses (step : Terms → World → LineStep World Moment) (old : Kit) (stop : Stop) : Type 0 where
   pub stopped : (terms : Terms) (world : World) → Stands terms world old → Stopped (step terms world) stop
   pub of_line : OfLine stop

@@ -22,7 +22,7 @@ use Rattle.t7_outcome.specs.declared.ending.ScriptWhy.TheVariants as why
 use Rattle.t7_outcome.specs.declared.ending.Stop.{Stop}
 use Rattle.t7_outcome.specs.declared.ending.Stop.TheVariants.{Memory, Script, WriteFault}
 use Rattle.t7_outcome.specs.Outcome.{Outcome, Shows, ends, says}
-use Rattle.t7_outcome.specs.Steps.{Goes, Step, Stops, stepped}
+use Rattle.t7_outcome.specs.Steps.{Goes, LineStep, Stops, stepped}
 use Rattle.t7_script.specs.declared.event.Event.{Event}
 use Rattle.t7_script.specs.declared.event.Event.TheVariants as event
 use Rattle.t7_script.specs.declared.event.LineRefusal.{LineRefusal}
@@ -34,15 +34,15 @@ use Rattle.t7_replay.specs.Reports.{AtList, AtShow, Gathering, Moment, Showing}
 use Rattle.t7_replay.specs.World.{World, on_next_line}
 
 -- a line can't be done: a connection is open and must not be, or the other way round
-abbrev pub connection_fault : World → Step World Moment
+abbrev pub connection_fault : World → LineStep World Moment
 connection_fault world = Stops (Script world.row why.Connection)
 
 -- the client is not in the state that the event wants
-abbrev pub client_fault : World → Step World Moment
+abbrev pub client_fault : World → LineStep World Moment
 client_fault world = Stops (Script world.row why.Client)
 
 -- so many bytes are not there
-abbrev pub bytes_fault : World → Step World Moment
+abbrev pub bytes_fault : World → LineStep World Moment
 bytes_fault world = Stops (Script world.row why.Bytes)
 
 -- what the exchange did once an event has led to this: the commands that it accepted are new acts
@@ -66,63 +66,63 @@ entry_lines terms world result =
     ++ under world.raw (sent_lines (codes "LIVE") (sent_on terms world.acts Live) (sent_on terms (acts_after world result.state) Live))
 
 -- what was done at the exchange
-abbrev pub entered_as : Terms → World → entry.Result → Step World Moment
+abbrev pub entered_as : Terms → World → entry.Result → LineStep World Moment
 entered_as terms world result = Goes (after_entry terms world result) (says (entry_lines terms world result))
 
 -- an event happens at the exchange
-abbrev pub entered : Terms → World → entry.Event → Step World Moment
+abbrev pub entered : Terms → World → entry.Event → LineStep World Moment
 entered terms world event = entered_as terms world (entry.happens (setting_of terms) world.state event)
 
 -- OPEN: a connection opens, which may not be open
-abbrev pub opening : Terms → World → ℕ → Bool → Step World Moment
+abbrev pub opening : Terms → World → ℕ → Bool → LineStep World Moment
 opening terms world conn true = connection_fault world
 opening terms world conn false = entered terms world (entry.Opened conn)
 
 -- something happens on a connection, which has to be open
-abbrev pub on_open : Terms → World → entry.Event → Bool → Step World Moment
+abbrev pub on_open : Terms → World → entry.Event → Bool → LineStep World Moment
 on_open terms world event true = entered terms world event
 on_open terms world event false = connection_fault world
 
 -- IN: bytes come on a connection that is not the client's
-abbrev pub coming_in : Terms → World → ℕ → List ℕ → Step World Moment
+abbrev pub coming_in : Terms → World → ℕ → List ℕ → LineStep World Moment
 coming_in terms world conn bytes =
     if any_on world.caller conn then connection_fault world
     else on_open terms world (entry.Bytes conn bytes world.moment) (contains_key world.state.inputs conn)
 
 -- CUT: a connection closes, and where it is the client's, the client is cut
-abbrev pub cutting : Terms → World → ℕ → Step World Moment
+abbrev pub cutting : Terms → World → ℕ → LineStep World Moment
 cutting terms world conn = on_open terms (record world { caller = cut_on world.caller conn }) (entry.Closed conn) (contains_key world.state.inputs conn)
 
 -- CLEAR: a security is cleared, unless 200,000 commands were accepted
-abbrev pub clearing : Terms → World → ℤ → Step World Moment
+abbrev pub clearing : Terms → World → ℤ → LineStep World Moment
 clearing terms world security =
     if nat_lt (length world.state.core.accepted) 200_000 then entered terms world (entry.Clear security world.moment)
     else Goes world (says (day_full_line ∷ []))
 
 -- BEAT: the exchange sends a heartbeat
-abbrev pub beating : Terms → World → Step World Moment
+abbrev pub beating : Terms → World → LineStep World Moment
 beating terms world =
     let acts = world.acts ++ Beats ∷ [] in
     Goes (record world { acts = acts }) (says (under world.raw (sent_lines (codes "LIVE") (sent_on terms world.acts Live) (sent_on terms acts Live))))
 
 -- SNAP: the exchange sends the next snapshot datagram
-abbrev pub snapping : Terms → World → Step World Moment
+abbrev pub snapping : Terms → World → LineStep World Moment
 snapping terms world =
     let acts = world.acts ++ Snaps ∷ [] in
     Goes (record world { acts = acts }) (says (under world.raw (sent_lines (codes "SNAP") (sent_on terms world.acts Snap) (sent_on terms acts Snap))))
 
 -- bytes are delivered to the member on a feed, which says where they are no datagram of it
-abbrev pub delivered : Terms → World → Feed → List ℕ → Step World Moment
+abbrev pub delivered : Terms → World → Feed → List ℕ → LineStep World Moment
 delivered terms world feed bytes =
     Goes (record world { came = record { feed = feed; bytes = bytes } ∷ world.came }) (says (bad_lines (fault_of (reading_of terms feed) bytes)))
 
 -- LA, LB, SA and SB: a datagram that was sent is delivered
-abbrev pub delivering : Terms → World → Feed → Option (List ℕ) → Step World Moment
+abbrev pub delivering : Terms → World → Feed → Option (List ℕ) → LineStep World Moment
 delivering terms world feed (Some bytes) = delivered terms world feed bytes
 delivering terms world feed None = Stops (Script world.row why.Datagram)
 
 -- DIAL: a connection opens, and the client of a session dials on it, while it is on no other
-abbrev pub dialing : Terms → World → ℕ → ℕ → Step World Moment
+abbrev pub dialing : Terms → World → ℕ → ℕ → LineStep World Moment
 dialing terms world conn session =
     if contains_key world.state.inputs conn || any_on_line world.caller then connection_fault world
     else if is_for session world.caller then
@@ -130,33 +130,33 @@ dialing terms world conn session =
     else client_fault world
 
 -- ORDER: the client queues a request for a new order, while it is logged on
-abbrev pub ordering : World → (ℕ → Request) → Option Calling → Step World Moment
+abbrev pub ordering : World → (ℕ → Request) → Option Calling → LineStep World Moment
 ordering world order None = client_fault world
 ordering world order (Some calling) =
     if calling.client.logged_on then Goes (record world { caller = Some (record calling { client = making calling.client (order calling.client.next) }) }) []
     else client_fault world
 
 -- UP: of the client's queued bytes the next so many come to the exchange
-abbrev pub sending : Terms → World → Calling → ℕ → Step World Moment
+abbrev pub sending : Terms → World → Calling → ℕ → LineStep World Moment
 sending terms world calling count =
     if nat_lt (length calling.client.queue) count then bytes_fault world
     else entered terms (record world { caller = Some (sent_up count calling) }) (entry.Bytes calling.conn (take count calling.client.queue) world.moment)
 
 -- so many as are named, or all of them, on the client's connection, which has to be open
-abbrev pub going_up : Terms → World → Option ℕ → Option Calling → Step World Moment
+abbrev pub going_up : Terms → World → Option ℕ → Option Calling → LineStep World Moment
 going_up terms world count None = connection_fault world
 going_up terms world count (Some calling) =
     if is_on_line calling && contains_key world.state.inputs calling.conn then sending terms world calling (unwrap_or count (length calling.client.queue))
     else connection_fault world
 
 -- DOWN: of the bytes that were sent on the client's connection the next so many come to the client, at most 2^35 since its dial
-abbrev pub receiving : World → Calling → ℕ → Step World Moment
+abbrev pub receiving : World → Calling → ℕ → LineStep World Moment
 receiving world calling count =
     if is_too_much count calling then bytes_fault world
     else Goes (record world { caller = Some (came_down count calling) }) []
 
 -- so many as are named, or all of them
-abbrev pub going_down : World → Option ℕ → Option Calling → Step World Moment
+abbrev pub going_down : World → Option ℕ → Option Calling → LineStep World Moment
 going_down world count None = client_fault world
 going_down world count (Some calling) = receiving world calling (unwrap_or count (length calling.coming))
 
@@ -165,7 +165,7 @@ abbrev pub gathering_of : Terms → World → Calling → Gathering
 gathering_of terms world calling = record { listing = terms.listing; acts = world.acts; said = world.said; calling = calling }
 
 -- LIST: the client's report
-abbrev pub reporting : Terms → World → Option Calling → Step World Moment
+abbrev pub reporting : Terms → World → Option Calling → LineStep World Moment
 reporting terms world None = client_fault world
 reporting terms world (Some calling) = Goes world (Shows (AtList (gathering_of terms world calling)) ∷ [])
 
@@ -174,7 +174,7 @@ abbrev pub moment_of : Terms → World → Showing
 moment_of terms world = record { terms = terms; acts = world.acts; came = world.came; forged = world.forged }
 
 -- the events: what each does in a world
-abbrev pub done_by : Terms → World → Event → Step World Moment
+abbrev pub done_by : Terms → World → Event → LineStep World Moment
 done_by terms world event.Raw = Goes (record world { raw = true }) []
 done_by terms world (event.Opens conn) = opening terms world conn (contains_key world.state.inputs conn)
 done_by terms world (event.Input conn bytes) = coming_in terms world conn bytes
@@ -200,20 +200,20 @@ stop_of row refusal.Number = Script row why.Number
 stop_of row refusal.Memory = Memory
 
 -- what is read of a line is done, or stops the script
-abbrev pub read_as : Terms → World → Result Event LineRefusal → Step World Moment
+abbrev pub read_as : Terms → World → Result Event LineRefusal → LineStep World Moment
 read_as terms world (Ok event) = done_by terms world event
 read_as terms world (Err why) = Stops (stop_of world.row why)
 
 -- what a line does: its event, which is read by the product and the moment of the last TICK
-abbrev pub done_read : Terms → World → List ℕ → Step World Moment
+abbrev pub done_read : Terms → World → List ℕ → LineStep World Moment
 done_read terms world line = read_as terms world (event_of (record { listing = terms.listing; moment = world.moment }) line)
 
 -- what the line does whose number is the world's row; there may be 200,000 lines
-abbrev pub done_at : Terms → World → List ℕ → Step World Moment
+abbrev pub done_at : Terms → World → List ℕ → LineStep World Moment
 done_at terms world line = if nat_lt 200_000 world.row then Stops (Script world.row why.Long) else done_read terms world line
 
 -- what the next line does; lines are numbered from 1
-abbrev pub step_at : Terms → World → List ℕ → Step World Moment
+abbrev pub step_at : Terms → World → List ℕ → LineStep World Moment
 step_at terms world line = done_at terms (on_next_line world) line
 
 -- what lines come to: each does what it says, and after the last one `END n` is due, n the number of live messages

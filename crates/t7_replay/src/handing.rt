@@ -10,7 +10,7 @@ ghost use Rattle.t7_replay.specs.Lines.{datagram_lines, replies_lines, under};
 use crate::caller::{Caller, tell_close, tell_frame};
 use crate::print::{datagram_front, put_bytes, put_close, put_frame};
 use std::alloc::{AllocError, Global};
-use t7_base::Octets;
+use t7_base::{MOST_DATAGRAM, Octets};
 use t7_exchange::{Exchange, Reply};
 
 /// Prints all replies that wait, in their order, each of which the client is told.
@@ -84,7 +84,7 @@ fn keep_next(
 ) -> Result<bool, AllocError>
     ensures { IfOk result (KeepsNext raw exchange.old exchange.new lives.old.items lives.new.items text.old.items text.new.items) }
 {
-    let mut out = [0u8; 1472];
+    let mut out = [0u8; MOST_DATAGRAM];
     match exchange.next_datagram(&mut out) {
         None => Ok(false),
         Some(sent) => {

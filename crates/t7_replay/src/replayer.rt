@@ -30,7 +30,7 @@ use t7_acts::{
     a_heartbeat_sends_one_more, a_snapshot_sends_one_more, days_stay_in_step, genuine_stays,
     more_commands_send_more, nothing_was_sent, what_was_sent_is_genuine,
 };
-use t7_base::{Feed, Moment, Octets, Product, SecurityId, Sink};
+use t7_base::{Feed, MOST_DATAGRAM, Moment, Octets, Product, SecurityId, Sink};
 use t7_exchange::{ClearRefusal, Exchange};
 use t7_layout::Table;
 use t7_member::{Delivered, Member, kept_is_reported, what_is_shown_is_supported};
@@ -326,7 +326,7 @@ impl<'a> Replayer<'a> {
             ≡ text_of (under self.old.raw (datagram_lines (codes "LIVE") (length self.old.lives) (beat_of self.old.day ∷ [])))) }
         ensures only { IfErr result (λ stop. stop ≡ Stop.Memory) }
     {
-        let mut out = [0u8; 1472];
+        let mut out = [0u8; MOST_DATAGRAM];
         let mut text = Vec::new(self.alloc);
         let sent = self.exchange.beat(&mut out);
         let bytes = &out[..sent.len];
@@ -362,7 +362,7 @@ impl<'a> Replayer<'a> {
         ensures kept { IfOk result (λ text. KeepsSnap self.old self.new text.items) }
         ensures only { IfErr result (λ stop. stop ≡ Stop.Memory) }
     {
-        let mut out = [0u8; 1472];
+        let mut out = [0u8; MOST_DATAGRAM];
         let mut text = Vec::new(self.alloc);
         let sent = self.exchange.snap(&mut out);
         let bytes = &out[..sent.len];

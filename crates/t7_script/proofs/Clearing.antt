@@ -10,7 +10,7 @@ use Rattle.t7_script.specs.declared.event.Event.TheVariants as kind
 use Rattle.t7_script.specs.declared.event.LineRefusal.{LineRefusal}
 use Rattle.t7_script.specs.declared.words.Word.{Word}
 use Rattle.t7_script.specs.declared.words.Word.TheVariants as word
-use Rattle.t7_script.specs.Cells.{cells_of, client, connection, count, feed, forged, is_listed, moment, number, number_within, one_of, order_of, piece, price, quantity, security, session, side, two_of}
+use Rattle.t7_script.specs.Cells.{cells_of, client, connection, byte_count, feed, forged, is_listed, moment, number, number_within, one_of, order_of, piece, price, quantity, security, session, side, two_of}
 use Rattle.t7_script.specs.Events.{Setting, alone, both, event_by, event_in, event_of, event_with, or_number, ordered, with_cells}
 
 -- an event clears no security but a listed one
@@ -81,8 +81,8 @@ from_word setting word.Forge cells = from_cells _ (two_of cells) _ (λ p. from_b
 from_word setting word.Dial cells = from_cells _ (two_of cells) _ (λ p. from_both _ kind.Dial (λ a b. tt) (connection p.0) (session setting.listing.sessions p.1))
 from_word setting word.Order cells = from_cells _ (order_of cells) _ (λ o.
     from_order _ (security setting.listing.securities o.security) (side o.side) (price o.price) (quantity o.quantity) (client o.client))
-from_word setting word.Up cells = from_cells _ (one_of cells) _ (λ c. from_map _ kind.Up (λ a. tt) (count c))
-from_word setting word.Down cells = from_cells _ (one_of cells) _ (λ c. from_map _ kind.Down (λ a. tt) (count c))
+from_word setting word.Up cells = from_cells _ (one_of cells) _ (λ c. from_map _ kind.Up (λ a. tt) (byte_count c))
+from_word setting word.Down cells = from_cells _ (one_of cells) _ (λ c. from_map _ kind.Down (λ a. tt) (byte_count c))
 from_word setting word.Show cells = from_alone _ kind.Show tt cells
 from_word setting word.List cells = from_alone _ kind.List tt cells
 

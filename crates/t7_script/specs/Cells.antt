@@ -96,8 +96,8 @@ abbrev pub client : List ℕ → Option ℕ
 client cell = number_within 0 18_446_744_073_709_551_614 cell
 
 -- how many bytes: a number, or `*` for all, which is none
-abbrev pub count : List ℕ → Option (Option ℕ)
-count cell = if bytes_eq cell (codes "*") then Some None else option_map (λ n. Some n) (number cell)
+abbrev pub byte_count : List ℕ → Option (Option ℕ)
+byte_count cell = if bytes_eq cell (codes "*") then Some None else option_map (λ n. Some n) (number cell)
 
 -- the word of a feed
 abbrev pub feed : List ℕ → Option Feed

@@ -11,7 +11,7 @@ use Rattle.t7_script.specs.declared.event.LineRefusal.{LineRefusal}
 use Rattle.t7_script.specs.declared.event.LineRefusal.TheVariants as refusal
 use Rattle.t7_script.specs.declared.words.Word.{Word}
 use Rattle.t7_script.specs.declared.words.Word.TheVariants as word
-use Rattle.t7_script.specs.Cells.{OrderCells, cells_of, client, connection, count, feed, forged, moment, number, one_of, order_of, piece, price, quantity, security, session, side, two_of}
+use Rattle.t7_script.specs.Cells.{OrderCells, cells_of, client, connection, byte_count, feed, forged, moment, number, one_of, order_of, piece, price, quantity, security, session, side, two_of}
 
 -- what a line is read by: the product, and the moment of the last TICK
 pub record Setting : Type 0 where
@@ -97,8 +97,8 @@ event_with setting (word.Deliver on) cells = with_cells (one_of cells) (λ c. op
 event_with setting word.Forge cells = with_cells (two_of cells) (λ p. both event.Forge (feed p.0) (forged p.1))
 event_with setting word.Dial cells = with_cells (two_of cells) (λ p. both event.Dial (connection p.0) (session setting.listing.sessions p.1))
 event_with setting word.Order cells = with_cells (order_of cells) (order_event setting.listing)
-event_with setting word.Up cells = with_cells (one_of cells) (λ c. option_map event.Up (count c))
-event_with setting word.Down cells = with_cells (one_of cells) (λ c. option_map event.Down (count c))
+event_with setting word.Up cells = with_cells (one_of cells) (λ c. option_map event.Up (byte_count c))
+event_with setting word.Down cells = with_cells (one_of cells) (λ c. option_map event.Down (byte_count c))
 event_with setting word.Show cells = alone event.Show cells
 event_with setting word.List cells = alone event.List cells
 

@@ -31,7 +31,6 @@ impl<'a> Model for Cells<'a> {
 }
 
 /// The first cell of a line, and those behind it.
-#[tactic(auto, using(crate::proofs::Splitting::cut_off, crate::proofs::Splitting::uncut))]
 pub(crate) fn first_cell(line: &[u8]) -> (&[u8], Cells<'_>)
     ensures { spec.cells_of line.now ≡ result.0.now ∷ result.1 }
 {
@@ -50,7 +49,6 @@ pub(crate) fn first_cell(line: &[u8]) -> (&[u8], Cells<'_>)
 
 impl<'a> Cells<'a> {
     /// Whether none is left.
-    #[tactic(auto, using(crate::proofs::Splitting::is_some_cell))]
     pub(crate) fn is_none(self) -> bool
         ensures { result ≡ is_nothing self.entry }
     {
@@ -61,7 +59,6 @@ impl<'a> Cells<'a> {
     }
 
     /// The cell that is left, where one alone is.
-    #[tactic(auto, using(crate::proofs::Splitting::not_one))]
     pub(crate) fn one(self) -> Option<&'a [u8]>
         ensures { option_map (λ c. c.now) result ≡ spec.one_of self.entry }
     {
@@ -72,7 +69,6 @@ impl<'a> Cells<'a> {
     }
 
     /// The two cells that are left, where so many are.
-    #[tactic(auto, using(crate::proofs::Splitting::two_or_none, crate::proofs::Splitting::two_cells))]
     pub(crate) fn two(self) -> Option<(&'a [u8], &'a [u8])>
         ensures { option_map (λ p. (p.0.now, p.1.now)) result ≡ spec.two_of self.entry }
     {
@@ -84,7 +80,6 @@ impl<'a> Cells<'a> {
     }
 
     /// The five cells of an order that are left, where so many are.
-    #[tactic(auto, using(crate::proofs::Splitting::order_or_none, crate::proofs::Splitting::order_cells))]
     pub(crate) fn order(self) -> Option<OrderCells<'a>>
         ensures { option_map cells_in result ≡ spec.order_of self.entry }
     {
@@ -115,7 +110,6 @@ pub(crate) struct OrderCells<'a> {
 }
 
 /// A number from a least to a greatest.
-#[tactic(auto, unfolding(crate::specs::Cells::number_within))]
 pub(crate) fn number_within(cell: &[u8], least: u64, most: u64) -> Option<u64>
     ensures value { result ≡ spec.number_within least most cell.now }
     ensures least { IfSome result (λ n. least ≤ n) }
@@ -242,8 +236,8 @@ pub(crate) fn client(cell: &[u8]) -> Option<u64>
 }
 
 /// How many bytes; all of them, where it is `*`.
-pub(crate) fn count(cell: &[u8]) -> Option<Option<u64>>
-    ensures { result ≡ spec.count cell.now }
+pub(crate) fn byte_count(cell: &[u8]) -> Option<Option<u64>>
+    ensures { result ≡ spec.byte_count cell.now }
 {
     if cell == b"*".as_slice() {
         return Some(None);
@@ -272,7 +266,6 @@ pub(crate) fn feed(cell: &[u8]) -> Option<Feed>
 }
 
 /// The bytes that hex digits spell, where there is one at least. An error comes only where memory is wanting.
-#[tactic(auto, unfolding(crate::specs::Cells::hex))]
 fn hex_bytes(alloc: Global, digits: &[u8]) -> Result<Option<Octets>, AllocError>
     ensures { IfOk result (λ bytes. bytes ≡ spec.hex digits.now) }
 {
@@ -287,7 +280,6 @@ fn hex_bytes(alloc: Global, digits: &[u8]) -> Result<Option<Octets>, AllocError>
 }
 
 /// The bytes of an `IN`. An error comes only where memory is wanting.
-#[tactic(auto, unfolding(crate::specs::Cells::piece))]
 pub(crate) fn piece(alloc: Global, digits: &[u8]) -> Result<Option<Octets>, AllocError>
     ensures { IfOk result (λ bytes. bytes ≡ spec.piece digits.now) }
 {
@@ -299,7 +291,6 @@ pub(crate) fn piece(alloc: Global, digits: &[u8]) -> Result<Option<Octets>, Allo
 }
 
 /// The bytes of a forged datagram. An error comes only where memory is wanting.
-#[tactic(auto, unfolding(crate::specs::Cells::forged))]
 pub(crate) fn forged(alloc: Global, cell: &[u8]) -> Result<Option<Octets>, AllocError>
     ensures { IfOk result (λ bytes. bytes ≡ spec.forged cell.now) }
 {

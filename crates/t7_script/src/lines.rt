@@ -50,7 +50,6 @@ fn put(line: &Line, out: &mut [u8]) -> usize
     bytes.len()
 }
 
-#[tactic(auto, unfolding(crate::specs::Lines::order_line))]
 fn order_text(order: &Resting) -> Line
     ensures value { result ≡ spec.order_line order.now }
     ensures short { length result ≤ 100 }
@@ -190,7 +189,6 @@ fn push_trade(line: &mut Line, qty: Qty, price: Price)
     line.push_signed(price.get());
 }
 
-#[tactic(auto, unfolding(crate::specs::Lines::misfit_words))]
 fn misfit_text(why: &Misfit) -> Line
     ensures value { result ≡ spec.misfit_words why.now }
     ensures short { length result ≤ 100 }

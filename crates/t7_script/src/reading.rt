@@ -7,8 +7,8 @@ ghost use Rattle.t7_script.specs.Events as spec;
 ghost use Rattle.t7_script.specs.Inside.{cells_in};
 
 use crate::cells::{
-    Cells, OrderCells, client, connection, count, feed, first_cell, forged, moment, number, piece,
-    price, quantity, security, session, side,
+    Cells, OrderCells, byte_count, client, connection, feed, first_cell, forged, moment, number,
+    piece, price, quantity, security, session, side,
 };
 use crate::event::{Event, LineRefusal};
 use crate::words::{Word, word_of};
@@ -122,24 +122,24 @@ fn tick(last: Moment, cells: Cells<'_>) -> Result<Event, LineRefusal>
 }
 
 fn up(cells: Cells<'_>) -> Result<Event, LineRefusal>
-    ensures { result ≡ spec.with_cells (cell.one_of cells.entry) (λ c. option_map event.Up (cell.count c)) }
+    ensures { result ≡ spec.with_cells (cell.one_of cells.entry) (λ c. option_map event.Up (cell.byte_count c)) }
 {
     let Some(cell) = cells.one() else {
         return Err(LineRefusal::Event);
     };
-    match count(cell) {
+    match byte_count(cell) {
         Some(count) => Ok(Event::Up { count }),
         None => Err(LineRefusal::Number),
     }
 }
 
 fn down(cells: Cells<'_>) -> Result<Event, LineRefusal>
-    ensures { result ≡ spec.with_cells (cell.one_of cells.entry) (λ c. option_map event.Down (cell.count c)) }
+    ensures { result ≡ spec.with_cells (cell.one_of cells.entry) (λ c. option_map event.Down (cell.byte_count c)) }
 {
     let Some(cell) = cells.one() else {
         return Err(LineRefusal::Event);
     };
-    match count(cell) {
+    match byte_count(cell) {
         Some(count) => Ok(Event::Down { count }),
         None => Err(LineRefusal::Number),
     }

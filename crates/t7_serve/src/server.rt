@@ -22,7 +22,7 @@ use crate::counts::Counts;
 use crate::sending::{cast_both, send};
 use std::alloc::{AllocError, Global};
 use std::marker::Model;
-use t7_base::{Feed, Moment, Product};
+use t7_base::{Feed, MOST_DATAGRAM, Moment, Product};
 use t7_exchange::{Exchange, Reply};
 use t7_layout::Table;
 use t7_net::{Clock, Lines, Link, LinkEvent};
@@ -131,7 +131,7 @@ impl<'t> Server<'t> {
         ensures cause { HasCause (D.faults lines.old) (D.faults lines.new) result }
         ensures only { IfErr result (λ stop. stop ≡ Stop.NetFault) }
     {
-        let mut out = [0u8; 1472];
+        let mut out = [0u8; MOST_DATAGRAM];
         let Some(sent) = self.exchange.next_datagram(&mut out) else {
             return Ok(false);
         };
@@ -287,7 +287,7 @@ impl<'t> Server<'t> {
         ensures cause { HasCause (D.faults lines.old) (D.faults lines.new) result }
         ensures only { IfErr result (λ stop. stop ≡ Stop.NetFault) }
     {
-        let mut out = [0u8; 1472];
+        let mut out = [0u8; MOST_DATAGRAM];
         let sent = self.exchange.beat(&mut out);
         cast_both(Feed::LiveA, Feed::LiveB, &out[..sent.len], lines)
     }
@@ -304,7 +304,7 @@ impl<'t> Server<'t> {
         ensures cause { HasCause (D.faults lines.old) (D.faults lines.new) result }
         ensures only { IfErr result (λ stop. stop ≡ Stop.NetFault) }
     {
-        let mut out = [0u8; 1472];
+        let mut out = [0u8; MOST_DATAGRAM];
         let sent = self.exchange.snap(&mut out);
         cast_both(Feed::SnapA, Feed::SnapB, &out[..sent.len], lines)
     }

@@ -11,7 +11,7 @@ use Rattle.t7_net.specs.declared.line.LineItem.{LineItem}
 use Rattle.t7_net.specs.declared.link.LinkItem.{LinkItem}
 use Rattle.t7_outcome.specs.declared.ending.Stop.TheVariants.{WriteFault}
 use Rattle.t7_outcome.specs.Ending.{Ended}
-use Rattle.t7_outcome.specs.Outcome.{Ends, Held, Outcome, Wrote}
+use Rattle.t7_outcome.specs.Outcome.{Ends, FileSet, Outcome, Wrote}
 use Rattle.t7_outcome.specs.Performing.{WroteSink}
 use Rattle.t7_top.specs.Jobs.{started}
 use Rattle.t7_top.specs.Moments.{IsReported, OfMember, outcome_as}
@@ -29,7 +29,7 @@ followed_names terms count receipts = by_end (length receipts == count)
     by_end true = refl
     by_end false = refl
 
-pub member_sink : (o : Option Held) (old new : Network) (terms : Terms) (feeds : Feeds) (count : ℕ) (ended : Ended) (p q : Option (List ℕ)) (n m : ℕ)
+pub member_sink : (o : Option FileSet) (old new : Network) (terms : Terms) (feeds : Feeds) (count : ℕ) (ended : Ended) (p q : Option (List ℕ)) (n m : ℕ)
     → Grew old.receipts new.receipts (λ receipts. Ends (followed terms count (reverse receipts)) ended)
     → Grew old.receipts new.receipts (λ receipts. Grew p q (Wrote member.IsReported (followed terms count (reverse receipts)) ended))
     → n ≤ m → (ended ≡ Err WriteFault → Rose n m)

@@ -12,7 +12,7 @@ use Rattle.t7_net.specs.Links.{LinkAsk, LinkSent}
 use Rattle.t7_net.specs.declared.link.LinkItem.{LinkItem}
 use Rattle.t7_outcome.specs.declared.ending.Stop.TheVariants.{ReadFault, WriteFault, NetFault, Memory}
 use Rattle.t7_outcome.specs.Ending.{Ended}
-use Rattle.t7_outcome.specs.Outcome.{Ends, Held, Outcome, Wrote, says}
+use Rattle.t7_outcome.specs.Outcome.{Ends, FileSet, Outcome, Wrote, says}
 use Rattle.t7_outcome.specs.Performing.{WroteSink}
 use Rattle.t7_outcome.proofs.Lines.{fronts_all, fronts_none, spelled_says}
 use Rattle.t7_top.specs.Jobs.{dialed_on, started}
@@ -42,7 +42,7 @@ wrote_of count conn client events ended w wrote = let due = report_at conn clien
 undialed_wrote : Wrote IsReported (record { names = []; parts = []; end = None }) (Err NetFault) []
 undialed_wrote = ([], [], fronts_none IsReported [], ([], refl), refl)
 
-module _ (o : Option Held) (old new : Network) (terms : Terms) (address : List ℕ) (session count : ℕ) (ended : Ended) (p q : Option (List ℕ)) (n m : ℕ)
+module _ (o : Option FileSet) (old new : Network) (terms : Terms) (address : List ℕ) (session count : ℕ) (ended : Ended) (p q : Option (List ℕ)) (n m : ℕ)
     (below : n ≤ m) (fault : ended ≡ Err WriteFault → Rose n m) where
   abbrev Wants : Option ℕ → Type 0
   Wants conn = Grew old.events new.events (λ events. WroteSink IsReported (λ given. dialed_on terms session count conn (reverse events)) ended o p q n m)

@@ -11,7 +11,7 @@ pub mod Replaying
 pub mod Roomy
 pub mod Sending
 pub mod Serving
-pub mod Taken
+pub mod Intake
 pub mod Telling
 pub mod Whole
 pub mod Working

@@ -13,7 +13,7 @@ use Rattle.t7_outcome.specs.declared.ending.Status.TheVariants as status
 use Rattle.t7_outcome.specs.declared.ending.Stop.{Stop}
 use Rattle.t7_outcome.specs.declared.ending.Stop.TheVariants.{Layout as LayoutStop, Product, ReadFault, WriteFault, NetFault, Memory}
 use Rattle.t7_outcome.specs.Ending.{Ended, status_of}
-use Rattle.t7_outcome.specs.Outcome.{Outcome, Part, Held, Given, Where, Asked, AskedOf, Ends, Fronts, Spelled, Wrote, WroteLines, fetched, followed, taking, text_of}
+use Rattle.t7_outcome.specs.Outcome.{Outcome, Part, FileSet, Given, Where, Asked, AskedOf, Ends, Fronts, Spelled, Wrote, WroteLines, fetched, followed, taking, text_of}
 use Rattle.t7_outcome.specs.Performing.{TookFiles, WroteSink}
 use Rattle.t7_outcome.proofs.Lines.{fronts_none}
 use Rattle.t7_outcome.proofs.Taking.{took_none}
@@ -21,21 +21,21 @@ use Rattle.t7_records.specs.Records.{records_of}
 use Rattle.t7_top.specs.Moments.{Moment, IsReported}
 use Rattle.t7_top.specs.Refusals.{RefusesProduct, RefusesTable, checked, checked_product}
 
-abbrev pub Read : Option Held → List ℕ → List ℕ → Type 0
+abbrev pub Read : Option FileSet → List ℕ → List ℕ → Type 0
 Read o name bytes = IfSome o (λ h. fetched name h ≡ Ok bytes)
 
 -- what holds where a file was read, where it is told what was given
-pub where_read : (o : Option Held) (name bytes : List ℕ) (P : Given → Type 0) → Read o name bytes
-    → ((h : Held) → fetched name h ≡ Ok bytes → P (record { files = h })) → Where o P
+pub where_read : (o : Option FileSet) (name bytes : List ℕ) (P : Given → Type 0) → Read o name bytes
+    → ((h : FileSet) → fetched name h ≡ Ok bytes → P (record { files = h })) → Where o P
 where_read None name bytes P read holds = tt
 where_read (Some h) name bytes P read holds = holds h read
 
-grew_none : (o : Option Held) (p : Option (List ℕ)) (P : Given → List ℕ → Type 0) → Where o (λ g. P g []) → Where o (λ g. Grew p p (P g))
+grew_none : (o : Option FileSet) (p : Option (List ℕ)) (P : Given → List ℕ → Type 0) → Where o (λ g. P g []) → Where o (λ g. Grew p p (P g))
 grew_none None p P none = tt
 grew_none (Some h) p P none = grew_nothing p (P (record { files = h })) none
 
 -- it was stopped before anything was written
-sink_stopped : (o : Option Held) (p : Option (List ℕ)) (plain : Given → Outcome Moment) (stop : Stop) (n : ℕ) → stop ≢ WriteFault
+sink_stopped : (o : Option FileSet) (p : Option (List ℕ)) (plain : Given → Outcome Moment) (stop : Stop) (n : ℕ) → stop ≢ WriteFault
     → Where o (λ g. Ends (plain g) (Err stop)) → Where o (λ g. Wrote IsReported (plain g) (Err stop) [])
     → WroteSink IsReported plain (Err stop) o p p n n
 sink_stopped o p plain stop n uncut ends wrote = record {
@@ -66,7 +66,7 @@ table_uncut fault (LayoutStop found) is = λ e. cc
 table_uncut fault Memory is = λ e. cc
 table_uncut fault stop is = absurd is
 
-pub table_refused : (o : Option Held) (p : Option (List ℕ)) (table rows : List ℕ) (later : List Layout → Given → Outcome Moment) (stop : Stop) (n : ℕ)
+pub table_refused : (o : Option FileSet) (p : Option (List ℕ)) (table rows : List ℕ) (later : List Layout → Given → Outcome Moment) (stop : Stop) (n : ℕ)
     → Read o table rows → RefusesTable (fault_of (records_of rows)) stop
     → WroteSink IsReported (λ g. taking table g.files (λ found. checked (fault_of (records_of found)) (later (table_of (records_of found)) g))) (Err stop) o p p n n
 table_refused o p table rows later stop n read is =
@@ -101,7 +101,7 @@ product_uncut fault (Product row why) is = λ e. cc
 product_uncut fault Memory is = λ e. cc
 product_uncut fault stop is = absurd is
 
-pub product_refused : (o : Option Held) (p : Option (List ℕ)) (product items : List ℕ) (later : Listing → Given → Outcome Moment) (stop : Stop) (n : ℕ)
+pub product_refused : (o : Option FileSet) (p : Option (List ℕ)) (product items : List ℕ) (later : Listing → Given → Outcome Moment) (stop : Stop) (n : ℕ)
     → Read o product items → RefusesProduct (product_fault_of (records_of items)) stop
     → WroteSink IsReported (λ g. taking product g.files (λ found. checked_product (product_fault_of (records_of found)) (later (product_of (records_of found)) g))) (Err stop) o p p n n
 product_refused o p product items later stop n read is =
@@ -118,7 +118,7 @@ product_refused o p product items later stop n read is =
     (ap (λ (r : Result (List ℕ) Stop). (followed r (λ found. checked_product (product_fault_of (records_of found)) (later (product_of (records_of found)) g))).parts) whole) is))
 
 -- the names behind a file that is whole
-pub table_names : (o : Option Held) (table rows : List ℕ) (layouts : List Layout) (later : List Layout → Given → Outcome Moment) → layouts ≡ table_of (records_of rows)
+pub table_names : (o : Option FileSet) (table rows : List ℕ) (layouts : List Layout) (later : List Layout → Given → Outcome Moment) → layouts ≡ table_of (records_of rows)
     → Read o table rows → fault_of (records_of rows) ≡ None
     → Where o (λ g. (taking table g.files (λ found. checked (fault_of (records_of found)) (later (table_of (records_of found)) g))).names ≡ table ∷ (later layouts g).names)
 table_names o table rows layouts later same read valid =
@@ -129,7 +129,7 @@ table_names o table rows layouts later same read valid =
     ∙ ap (λ (f : Option TableFault). table ∷ (checked f (later (table_of (records_of rows)) g)).names) valid
     ∙ ap (λ (l : List Layout). table ∷ (later l g).names) (sym same))
 
-pub product_names : (o : Option Held) (product items : List ℕ) (listing : Listing) (later : Listing → Given → Outcome Moment) → listing ≡ product_of (records_of items)
+pub product_names : (o : Option FileSet) (product items : List ℕ) (listing : Listing) (later : Listing → Given → Outcome Moment) → listing ≡ product_of (records_of items)
     → Read o product items → product_fault_of (records_of items) ≡ None
     → Where o (λ g. (taking product g.files (λ found. checked_product (product_fault_of (records_of found)) (later (product_of (records_of found)) g))).names ≡ product ∷ (later listing g).names)
 product_names o product items listing later same read valid =
@@ -170,7 +170,7 @@ asked_of_more name named answer xs names one asked =
 rose_before : (m n k : ℕ) → m ≤ n → Rose n k → Rose m k
 rose_before m n k below rose = omega arith
 
-pub files_more : (o : Option Held) (plain next : Given → Outcome Moment) (name : List ℕ) (named : List (List ℕ)) (ended : Ended) (a b c : Option (List (List ℕ))) (m n k : ℕ)
+pub files_more : (o : Option FileSet) (plain next : Given → Outcome Moment) (name : List ℕ) (named : List (List ℕ)) (ended : Ended) (a b c : Option (List (List ℕ))) (m n k : ℕ)
     → Where o (λ g. (plain g).names ≡ name ∷ (next g).names) → Grew a b (λ ns. ns ≡ name ∷ []) → m ≤ n
     → TookFiles next named ended o b c n k → TookFiles plain (name ∷ named) ended o a c m k
 files_more o plain next name named ended a b c m n k is one below rest = record {
@@ -181,7 +181,7 @@ files_more o plain next name named ended a b c m n k is one below rest = record 
   fault = λ read. rose_before m n k below (rest.fault read);
 }
   where
-    took_more : (o : Option Held) → Where o (λ g. (plain g).names ≡ name ∷ (next g).names) → Where o (λ g. Grew b c (Asked (next g) (status_of ended)))
+    took_more : (o : Option FileSet) → Where o (λ g. (plain g).names ≡ name ∷ (next g).names) → Where o (λ g. Grew b c (Asked (next g) (status_of ended)))
         → Where o (λ g. Grew a c (Asked (plain g) (status_of ended)))
     took_more None is took = tt
     took_more (Some h) is took =
@@ -190,7 +190,7 @@ files_more o plain next name named ended a b c m n k is one below rest = record 
         (λ xs ys first later. asked_more (plain g) (next g) name (status_of ended) xs ys is first later)
 
 -- What the sink got where a file was read: that of what follows it, when the outcome behind the file is this.
-pub sink_behind : (o : Option Held) (plain next : Given → Outcome Moment) (ended : Ended) (p q : Option (List ℕ)) (n m : ℕ)
+pub sink_behind : (o : Option FileSet) (plain next : Given → Outcome Moment) (ended : Ended) (p q : Option (List ℕ)) (n m : ℕ)
     → Where o (λ g. ((plain g).end ≡ (next g).end) × ((plain g).parts ≡ (next g).parts))
     → WroteSink IsReported next ended o p q n m → WroteSink IsReported plain ended o p q n m
 sink_behind o plain next ended p q n m is sink = record { end = ends_behind o is sink.end; wrote = wrote_behind o is sink.wrote; count = sink.count; fault = sink.fault }
@@ -209,12 +209,12 @@ sink_behind o plain next ended p q n m is sink = record { end = ends_behind o is
     wrote_same a b (Err Memory) w same wrote = subst (λ (l : List (Part Moment)). WroteLines IsReported l w) (sym same) wrote
     wrote_same a b ended w same wrote = subst (λ (l : List (Part Moment)). (lines : _) × Spelled IsReported l lines × (w ≡ text_of lines)) (sym same) wrote
 
-    ends_behind : (o : Option Held) → Where o (λ g. ((plain g).end ≡ (next g).end) × ((plain g).parts ≡ (next g).parts)) → Where o (λ g. Ends (next g) ended)
+    ends_behind : (o : Option FileSet) → Where o (λ g. ((plain g).end ≡ (next g).end) × ((plain g).parts ≡ (next g).parts)) → Where o (λ g. Ends (next g) ended)
         → Where o (λ g. Ends (plain g) ended)
     ends_behind None is ends = tt
     ends_behind (Some h) is ends = let g : Given = record { files = h } in ends_same (plain g) (next g) ended is.0 ends
 
-    wrote_behind : (o : Option Held) → Where o (λ g. ((plain g).end ≡ (next g).end) × ((plain g).parts ≡ (next g).parts))
+    wrote_behind : (o : Option FileSet) → Where o (λ g. ((plain g).end ≡ (next g).end) × ((plain g).parts ≡ (next g).parts))
         → Where o (λ g. Grew p q (Wrote IsReported (next g) ended)) → Where o (λ g. Grew p q (Wrote IsReported (plain g) ended))
     wrote_behind None is wrote = tt
     wrote_behind (Some h) is wrote =
@@ -222,7 +222,7 @@ sink_behind o plain next ended p q n m is sink = record { end = ends_behind o is
         grew_as p q (Wrote IsReported (next g) ended) (Wrote IsReported (plain g) ended) wrote (λ w one. wrote_same (plain g) (next g) ended w is.1 one)
 
 -- behind a table that is whole
-pub sink_behind_table : (o : Option Held) (table rows : List ℕ) (layouts : List Layout) (later : List Layout → Given → Outcome Moment) (ended : Ended) (p q : Option (List ℕ)) (n m : ℕ)
+pub sink_behind_table : (o : Option FileSet) (table rows : List ℕ) (layouts : List Layout) (later : List Layout → Given → Outcome Moment) (ended : Ended) (p q : Option (List ℕ)) (n m : ℕ)
     → layouts ≡ table_of (records_of rows) → Read o table rows → fault_of (records_of rows) ≡ None → WroteSink IsReported (later layouts) ended o p q n m
     → WroteSink IsReported (λ g. taking table g.files (λ found. checked (fault_of (records_of found)) (later (table_of (records_of found)) g))) ended o p q n m
 sink_behind_table o table rows layouts later ended p q n m same read valid sink =
@@ -241,7 +241,7 @@ sink_behind_table o table rows layouts later ended p q n m same read valid sink 
         ∙ ap (λ (l : List Layout). field (later l g)) (sym same)
 
 -- behind a product file that is whole
-pub sink_behind_product : (o : Option Held) (product items : List ℕ) (listing : Listing) (later : Listing → Given → Outcome Moment) (ended : Ended) (p q : Option (List ℕ)) (n m : ℕ)
+pub sink_behind_product : (o : Option FileSet) (product items : List ℕ) (listing : Listing) (later : Listing → Given → Outcome Moment) (ended : Ended) (p q : Option (List ℕ)) (n m : ℕ)
     → listing ≡ product_of (records_of items) → Read o product items → product_fault_of (records_of items) ≡ None → WroteSink IsReported (later listing) ended o p q n m
     → WroteSink IsReported (λ g. taking product g.files (λ found. checked_product (product_fault_of (records_of found)) (later (product_of (records_of found)) g))) ended o p q n m
 sink_behind_product o product items listing later ended p q n m same read valid sink =
@@ -260,11 +260,11 @@ sink_behind_product o product items listing later ended p q n m same read valid 
         ∙ ap (λ (l : Listing). field (later l g)) (sym same)
 
 -- What the sink got where the outcome is the same whatever the files hold.
-pub sink_plain : (o : Option Held) (plain : Outcome Moment) (ended : Ended) (p q : Option (List ℕ)) (n m : ℕ) → Ends plain ended → Grew p q (Wrote IsReported plain ended)
+pub sink_plain : (o : Option FileSet) (plain : Outcome Moment) (ended : Ended) (p q : Option (List ℕ)) (n m : ℕ) → Ends plain ended → Grew p q (Wrote IsReported plain ended)
     → n ≤ m → (ended ≡ Err WriteFault → Rose n m) → WroteSink IsReported (λ g. plain) ended o p q n m
 sink_plain o plain ended p q n m ends wrote below fault = record { end = held o (Ends plain ended) ends; wrote = held o (Grew p q (Wrote IsReported plain ended)) wrote; count = below; fault = fault }
   where
-    held : (o : Option Held) (P : Type 0) → P → Where o (λ g. P)
+    held : (o : Option FileSet) (P : Type 0) → P → Where o (λ g. P)
     held None P p = tt
     held (Some h) P p = p
 
@@ -273,7 +273,7 @@ none_asked status.Done = refl
 none_asked answer = ([], refl)
 
 -- a command that asks for no file
-pub files_none : (o : Option Held) (a : Option (List (List ℕ))) (plain : Given → Outcome Moment) (ended : Ended) (n : ℕ) → ((g : Given) → (plain g).names ≡ []) → ended ≢ Err ReadFault
+pub files_none : (o : Option FileSet) (a : Option (List (List ℕ))) (plain : Given → Outcome Moment) (ended : Ended) (n : ℕ) → ((g : Given) → (plain g).names ≡ []) → ended ≢ Err ReadFault
     → TookFiles plain [] ended o a a n n
 files_none o a plain ended n none read = record {
   took = took_none o a plain (status_of ended) none;

@@ -7,9 +7,9 @@ use Rattle.t7_outcome.specs.declared.ending.Status.{Status}
 use Rattle.t7_outcome.specs.declared.ending.Stop.{Stop}
 use Rattle.t7_outcome.specs.declared.ending.Stop.TheVariants.{WriteFault}
 use Rattle.t7_outcome.specs.Ending.{Ended}
-use Rattle.t7_outcome.specs.Outcome.{Outcome, Held, Given, Where, Asked, Ends, Wrote, fetched, followed, taking}
+use Rattle.t7_outcome.specs.Outcome.{Outcome, FileSet, Given, Where, Asked, Ends, Wrote, fetched, followed, taking}
 use Rattle.t7_outcome.specs.Performing.{WroteSink}
-use Rattle.t7_outcome.specs.Steps.{Step, Goes, Stops, stepped}
+use Rattle.t7_outcome.specs.Steps.{LineStep, Goes, Stops, stepped}
 use Rattle.t7_outcome.proofs.Closing.{asked_all}
 use Rattle.t7_replay.specs.Reports as script
 use Rattle.t7_replay.specs.Script.{lines_of}
@@ -25,12 +25,12 @@ played_names : (terms : Terms) (world : World) (lines : List (List ℕ)) → (pl
 played_names terms world [] = refl
 played_names terms world (line ∷ lines) = of_step (step_at terms world line) (λ after. played terms after lines) (λ after. played_names terms after lines)
   where
-    of_step : (step : Step World script.Moment) (next : World → Outcome script.Moment) → ((after : World) → (next after).names ≡ []) → (stepped step next).names ≡ []
+    of_step : (step : LineStep World script.Moment) (next : World → Outcome script.Moment) → ((after : World) → (next after).names ≡ []) → (stepped step next).names ≡ []
     of_step (Goes world parts) next none = none world
     of_step (Stops stop) next none = refl
 
 -- the script was read whole
-pub script_took : (o : Option Held) (a b : Option (List (List ℕ))) (terms : Terms) (name bytes : List ℕ) (answer : Status)
+pub script_took : (o : Option FileSet) (a b : Option (List (List ℕ))) (terms : Terms) (name bytes : List ℕ) (answer : Status)
     → IfSome o (λ h. fetched name h ≡ Ok bytes) → Grew a b (λ ns. ns ≡ name ∷ []) → Where o (λ g. Grew a b (Asked (taking name g.files (script_played terms)) answer))
 script_took None a b terms name bytes answer read grew = tt
 script_took (Some h) a b terms name bytes answer read grew =
@@ -41,7 +41,7 @@ script_took (Some h) a b terms name bytes answer read grew =
     ∙ ap (λ (l : List (List ℕ)). name ∷ l) (played_names terms new_world (lines_of bytes)))))
 
 -- what the sink got of it
-pub script_sink : (o : Option Held) (p q : Option (List ℕ)) (terms : Terms) (name bytes : List ℕ) (ended : Ended) (n m : ℕ) → Read o name bytes
+pub script_sink : (o : Option FileSet) (p q : Option (List ℕ)) (terms : Terms) (name bytes : List ℕ) (ended : Ended) (n m : ℕ) → Read o name bytes
     → Ends (played terms new_world (lines_of bytes)) ended → Grew p q (Wrote script.IsReported (played terms new_world (lines_of bytes)) ended)
     → n ≤ m → (ended ≡ Err WriteFault → Rose n m) → WroteSink IsReported (λ g. taking name g.files (script_played terms)) ended o p q n m
 script_sink o p q terms name bytes ended n m read ends wrote below fault =

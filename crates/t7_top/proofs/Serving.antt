@@ -9,14 +9,14 @@ use Rattle.t7_net.specs.declared.line.LineItem.{LineItem}
 use Rattle.t7_net.specs.declared.link.LinkItem.{LinkItem}
 use Rattle.t7_outcome.specs.declared.ending.Stop.TheVariants.{ReadFault, WriteFault, NetFault, Memory}
 use Rattle.t7_outcome.specs.Ending.{Ended}
-use Rattle.t7_outcome.specs.Outcome.{Ends, Held, Outcome, Wrote}
+use Rattle.t7_outcome.specs.Outcome.{Ends, FileSet, Outcome, Wrote}
 use Rattle.t7_outcome.specs.Performing.{WroteSink}
 use Rattle.t7_outcome.proofs.Lines.{fronts_none}
 use Rattle.t7_serve.specs.Clauses.{CastAt, OfServe, OfTakings, SentAt}
 use Rattle.t7_serve.specs.Served.{Taking, done_by, served, takings}
 use Rattle.t7_top.specs.Jobs.{started}
 use Rattle.t7_top.specs.Moments.{IsReported, Moment}
-use Rattle.t7_top.specs.Network.{JobTook, Network, seen, untaken}
+use Rattle.t7_top.specs.Network.{JobTook, Network, seen, no_intake}
 use Rattle.t7_top.specs.Using.{Sent}
 use Rattle.t7_top.specs.Words.{Exchange, Feeds}
 use Rattle.t7_top.proofs.Growing.{grew_both}
@@ -50,7 +50,7 @@ of_takings old new P Q took each =
     (λ events. Grew old.moments new.moments (Q events)) took
     (λ events more. grew_as old.moments new.moments (λ moments. (length moments ≡ length events) × P (takings events moments)) (Q events) more (λ moments holds. each events moments holds.1))
 
-pub served_sink : (o : Option Held) (old new : Network) (terms : Terms) (listen : List ℕ) (feeds : Feeds) (count : ℕ) (ended : Ended) (p : Option (List ℕ)) (n : ℕ)
+pub served_sink : (o : Option FileSet) (old new : Network) (terms : Terms) (listen : List ℕ) (feeds : Feeds) (count : ℕ) (ended : Ended) (p : Option (List ℕ)) (n : ℕ)
     → OfTakings old.events new.events old.moments new.moments (λ taken. Ends (served {Moment = Unit {0}} terms count taken) ended) → IfErr ended OfServe
     → JobTook (Exchange listen feeds count) old new (λ taken. WroteSink IsReported (started terms (Exchange listen feeds count) taken) ended o p p n n)
 served_sink o old new terms listen feeds count ended p n ends of =
@@ -69,11 +69,11 @@ served_sent old new terms listen feeds count ended sent cast =
     grew_both old.events new.events
     (λ events. Grew old.moments new.moments (λ moments. (length moments ≡ length events) × Grew old.sent new.sent (SentAt (done_by terms (takings events moments)).sent ended)))
     (λ events. Grew old.moments new.moments (λ moments. (length moments ≡ length events) × Grew old.cast new.cast (CastAt (done_by terms (takings events moments)).cast ended)))
-    (λ events. Grew old.moments new.moments (λ moments. Sent terms (Exchange listen feeds count) (record untaken { events = events; moments = moments }) ended old new)) sent cast
+    (λ events. Grew old.moments new.moments (λ moments. Sent terms (Exchange listen feeds count) (record no_intake { events = events; moments = moments }) ended old new)) sent cast
     (λ events first second. grew_both old.moments new.moments
     (λ moments. (length moments ≡ length events) × Grew old.sent new.sent (SentAt (done_by terms (takings events moments)).sent ended))
     (λ moments. (length moments ≡ length events) × Grew old.cast new.cast (CastAt (done_by terms (takings events moments)).cast ended))
-    (λ moments. Sent terms (Exchange listen feeds count) (record untaken { events = events; moments = moments }) ended old new) first second
+    (λ moments. Sent terms (Exchange listen feeds count) (record no_intake { events = events; moments = moments }) ended old new) first second
     (λ moments x y. (x.1, y.1)))
 
 -- no receipt is taken

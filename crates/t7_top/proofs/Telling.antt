@@ -5,7 +5,7 @@ use Rattle.t7_base.proofs.Grown.{grew_as, grew_then}
 use Rattle.t7_outcome.specs.declared.ending.Finish.TheVariants.{Text}
 use Rattle.t7_outcome.specs.declared.ending.Stop.TheVariants.{ReadFault, WriteFault}
 use Rattle.t7_outcome.specs.Ending.{Ended}
-use Rattle.t7_outcome.specs.Outcome.{Held, Says, Wrote}
+use Rattle.t7_outcome.specs.Outcome.{FileSet, Says, Wrote}
 use Rattle.t7_outcome.specs.Performing.{TookFiles}
 use Rattle.t7_outcome.proofs.Lines.{begins_after, begins_more, fronts_all, spelled_says, text_of-one}
 use Rattle.t7_top.specs.Moments.{IsReported}
@@ -47,6 +47,6 @@ tells_no_read text (Ok finish) p q tells = λ is. cc
 tells_no_read text (Err WriteFault) p q tells = λ is. cc
 tells_no_read text (Err stop) p q tells = absurd tells
 
-pub text_files : (o : Option Held) (a : Option (List (List ℕ))) (text : List ℕ) (ended : Ended) (p q : Option (List ℕ)) (n : ℕ) → Tells text ended p q
+pub text_files : (o : Option FileSet) (a : Option (List (List ℕ))) (text : List ℕ) (ended : Ended) (p q : Option (List ℕ)) (n : ℕ) → Tells text ended p q
     → TookFiles (λ g. told text) [] ended o a a n n
 text_files o a text ended p q n tells = files_none o a (λ g. told text) ended n (λ g. refl) (tells_no_read text ended p q tells)

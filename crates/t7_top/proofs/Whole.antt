@@ -23,24 +23,24 @@ use Rattle.t7_outcome.specs.declared.ending.Status.TheVariants as status
 use Rattle.t7_outcome.specs.declared.ending.Stop.{Stop}
 use Rattle.t7_outcome.specs.declared.ending.Stop.TheVariants.{Peer, TooLong}
 use Rattle.t7_outcome.specs.Ending.{Ended, status_of}
-use Rattle.t7_outcome.specs.Outcome.{Answers, Outcome, Given, Held, Where, fetched, followed as file_followed}
-use Rattle.t7_outcome.specs.Steps.{Step, Goes, GoesTo, Stops, stepped}
+use Rattle.t7_outcome.specs.Outcome.{Answers, Outcome, Given, FileSet, Where, fetched, followed as file_followed}
+use Rattle.t7_outcome.specs.Steps.{LineStep, Goes, GoesTo, Stops, stepped}
 use Rattle.t7_records.specs.Records.{records_of}
 use Rattle.t7_replay.specs.Reports as script
 use Rattle.t7_replay.specs.Script.{lines_of}
 use Rattle.t7_replay.specs.Steps.{played, step_at}
 use Rattle.t7_replay.specs.World.{World, new_world}
 use Rattle.t7_serve.specs.Served.{done_by, end_of, ends_too_long, takings}
-use Rattle.t7_top.specs.Check.{listing}
+use Rattle.t7_top.specs.Check.{check_lines}
 use Rattle.t7_top.specs.Exercise.{exercised}
-use Rattle.t7_top.specs.Jobs.{dialed_on, script_played, started, terms_of, traded, worked}
+use Rattle.t7_top.specs.Jobs.{dialed_on, script_played, started, terms_of, over_product, over_table}
 use Rattle.t7_top.specs.Moments.{Moment}
-use Rattle.t7_top.specs.Network.{Network, Taken, Took, untaken}
+use Rattle.t7_top.specs.Network.{Network, Intake, Took, no_intake}
 use Rattle.t7_top.specs.Outcomes.{outcome_of}
 use Rattle.t7_top.specs.Refusals.{checked, checked_product}
 use Rattle.t7_top.specs.Whole.{AreWhole, EachGoes, EndsJob, EndsWhole, IsComplete, IsWholeJob, IsWholeScript, IsWholeTable}
-use Rattle.t7_top.specs.Words.{Command, Over, Check, Drill, Help, Version, Feeds, Job, Replay, Exchange, Member, Gather}
-use Rattle.t7_top.proofs.Taken.{took_as}
+use Rattle.t7_top.specs.Words.{Invocation, Over, Check, Drill, Help, Version, Feeds, Job, Replay, Exchange, Member, Gather}
+use Rattle.t7_top.proofs.Intake.{took_as}
 
 -- the script comes to its end
 played_well : (terms : Terms) (world : World) (lines : List (List ℕ)) → EachGoes terms world lines → IsSomeAnd (played terms world lines).end IsOk
@@ -48,7 +48,7 @@ played_well terms world [] each = refl
 played_well terms world (line ∷ lines) each =
     of_step (step_at terms world line) (λ after. played terms after lines) each (λ after goes. played_well terms after lines goes)
   where
-    of_step : (step : Step World script.Moment) (next : World → Outcome script.Moment) → GoesTo step (λ after. EachGoes terms after lines)
+    of_step : (step : LineStep World script.Moment) (next : World → Outcome script.Moment) → GoesTo step (λ after. EachGoes terms after lines)
         → ((after : World) → EachGoes terms after lines → IsSomeAnd (next after).end IsOk) → IsSomeAnd (stepped step next).end IsOk
     of_step (Goes after parts) next goes well = well after goes
     of_step (Stops stop) next goes well = absurd goes
@@ -60,11 +60,11 @@ behind_table table g whole next =
     ap (λ (r : Result (List ℕ) Stop). (file_followed r (λ rows. checked (fault_of (records_of rows)) (next rows))).end) whole.read
     ∙ ap (λ (f : Option TableFault). (checked f (next whole.rows)).end) whole.valid
 
-job_end : (table product : List ℕ) (job : Job) (taken : Taken) (g : Given) (whole : AreWhole table product job g.files)
-    → (worked table product job taken g).end
+job_end : (table product : List ℕ) (job : Job) (taken : Intake) (g : Given) (whole : AreWhole table product job g.files)
+    → (over_table table product job taken g).end
     ≡ (started (terms_of (table_of (records_of whole.tables.rows)) (product_of (records_of whole.products.items))) job taken g).end
 job_end table product job taken g whole =
-    behind_table table g whole.tables (λ rows. traded (table_of (records_of rows)) product job taken g)
+    behind_table table g whole.tables (λ rows. over_product (table_of (records_of rows)) product job taken g)
     ∙ ap (λ (r : Result (List ℕ) Stop). (file_followed r (λ items. checked_product (product_fault_of (records_of items))
     (started (terms_of (table_of (records_of whole.tables.rows)) (product_of (records_of items))) job taken g))).end) whole.products.read
     ∙ ap (λ (f : Option ProductFault). (checked_product f
@@ -76,7 +76,7 @@ own_answer (Some (Ok finish)) answer well is = cc
 own_answer (Some (Err stop)) answer well is = cc
 
 -- how `exchange` ends
-exchange_end : (terms : Terms) (listen : List ℕ) (feeds : Feeds) (count : ℕ) (taken : Taken) (answer : Status)
+exchange_end : (terms : Terms) (listen : List ℕ) (feeds : Feeds) (count : ℕ) (taken : Intake) (answer : Status)
     → option_map status_of (end_of terms count (takings taken.events taken.moments)) ≡ Some answer → EndsJob (Exchange listen feeds count) answer
 exchange_end terms listen feeds count taken answer is =
     by_end (ends_too_long terms (takings taken.events taken.moments)) (length (takings taken.events taken.moments) == count)
@@ -173,14 +173,14 @@ member_end terms feeds count receipts answer is = by_end (length receipts == cou
     by_end false is = let no : ⊥ = cc in absurd no
 
 -- how `replay` ends over a script that is whole
-script_end : (terms : Terms) (name : List ℕ) (g : Given) (taken : Taken) (whole : IsWholeScript terms name g.files) (answer : Status)
+script_end : (terms : Terms) (name : List ℕ) (g : Given) (taken : Intake) (whole : IsWholeScript terms name g.files) (answer : Status)
     → option_map status_of (started terms (Replay name) taken g).end ≡ Some answer → EndsJob (Replay name) answer
 script_end terms name g taken whole answer is =
     subst (λ (s : Status). EndsJob (Replay name) s)
     (sym (own_answer (played terms new_world (lines_of whole.bytes)).end answer (played_well terms new_world (lines_of whole.bytes) whole.passes)
     (sym (ap (λ (r : Result (List ℕ) Stop). option_map status_of (file_followed r (script_played terms)).end) whole.read) ∙ is))) tt
 
-started_end : (terms : Terms) (job : Job) (taken : Taken) (g : Given) (answer : Status) → IsWholeJob terms job g.files
+started_end : (terms : Terms) (job : Job) (taken : Intake) (g : Given) (answer : Status) → IsWholeJob terms job g.files
     → option_map status_of (started terms job taken g).end ≡ Some answer → EndsJob job answer
 started_end terms (Replay name) taken g answer whole is = script_end terms name g taken whole answer is
 started_end terms (Exchange listen feeds count) taken g answer whole is = exchange_end terms listen feeds count taken answer is
@@ -188,23 +188,23 @@ started_end terms (Member feeds count) taken g answer whole is = member_end term
 started_end terms (Gather address session count) taken g answer whole is =
     dialed_end terms address session count (conn_of taken.dials) (reverse taken.events) answer is
 
-job_well : (table product : List ℕ) (job : Job) (taken : Taken) (g : Given) (answer : Status) → AreWhole table product job g.files
-    → option_map status_of (worked table product job taken g).end ≡ Some answer → EndsJob job answer
+job_well : (table product : List ℕ) (job : Job) (taken : Intake) (g : Given) (answer : Status) → AreWhole table product job g.files
+    → option_map status_of (over_table table product job taken g).end ≡ Some answer → EndsJob job answer
 job_well table product job taken g answer whole is =
     started_end (terms_of (table_of (records_of whole.tables.rows)) (product_of (records_of whole.products.items))) job taken g answer whole.rest
     (sym (ap (option_map status_of) (job_end table product job taken g whole)) ∙ is)
 
 -- the others
-check_well : (table : List ℕ) (g : Given) (answer : Status) → IsWholeTable table g.files → option_map status_of (outcome_of (Some (Check table)) untaken g).end ≡ Some answer
+check_well : (table : List ℕ) (g : Given) (answer : Status) → IsWholeTable table g.files → option_map status_of (outcome_of (Some (Check table)) no_intake g).end ≡ Some answer
     → answer ≡ status.Done
 check_well table g answer whole is =
-    own_answer (listing (table_of (records_of whole.rows))).end answer refl
-    (sym (ap (option_map status_of) (behind_table table g whole (λ rows. listing (table_of (records_of rows))))) ∙ is)
+    own_answer (check_lines (table_of (records_of whole.rows))).end answer refl
+    (sym (ap (option_map status_of) (behind_table table g whole (λ rows. check_lines (table_of (records_of rows))))) ∙ is)
 
 drill_well : (seed orders : ℕ) (answer : Status) → option_map status_of (exercised seed orders).end ≡ Some answer → answer ≡ status.Done
 drill_well seed orders answer is = own_answer (exercised seed orders).end answer refl is
 
-own_well : (command : Option Command) (taken : Taken) (g : Given) (answer : Status) → IsComplete command g
+own_well : (command : Option Invocation) (taken : Intake) (g : Given) (answer : Status) → IsComplete command g
     → option_map status_of (outcome_of command taken g).end ≡ Some answer → EndsWhole command answer
 own_well None taken g answer whole is = absurd whole
 own_well (Some (Over table product job)) taken g answer whole is = job_well table product job taken g answer whole is
@@ -213,7 +213,7 @@ own_well (Some (Drill seed orders)) taken g answer whole is = inl (drill_well se
 own_well (Some Help) taken g answer whole is = inl (own_answer (Some (Ok Text)) answer refl is)
 own_well (Some Version) taken g answer whole is = inl (own_answer (Some (Ok Text)) answer refl is)
 
-wants_memory : (command : Option Command) (g : Given) → IsComplete command g → EndsWhole command status.Memory
+wants_memory : (command : Option Invocation) (g : Given) → IsComplete command g → EndsWhole command status.Memory
 wants_memory None g whole = absurd whole
 wants_memory (Some (Over table product job)) g whole = tt
 wants_memory (Some (Check table)) g whole = inr refl
@@ -221,7 +221,7 @@ wants_memory (Some (Drill seed orders)) g whole = inr refl
 wants_memory (Some Help) g whole = inr refl
 wants_memory (Some Version) g whole = inr refl
 
-by_answer : (command : Option Command) (taken : Taken) (g : Given) (answer : Status) (a b c d e f h k : ℕ) → Answers (outcome_of command taken g) answer
+by_answer : (command : Option Invocation) (taken : Intake) (g : Given) (answer : Status) (a b c d e f h k : ℕ) → Answers (outcome_of command taken g) answer
     → (answer ≡ status.ReadFault → Rose a b) → (answer ≡ status.WriteFault → Rose c d) → (answer ≡ status.NetFault → Rose e f ⊎ Rose h k)
     → IsComplete command g → ¬ Rose a b → ¬ Rose c d → ¬ Rose e f → ¬ Rose h k → EndsWhole command answer
 by_answer command taken g status.ReadFault a b c d e f h k answers read write net whole no_read no_write no_link no_lines = absurd (no_read (read refl))
@@ -235,7 +235,7 @@ by_answer command taken g status.Memory a b c d e f h k answers read write net w
 by_answer command taken g answer a b c d e f h k answers read write net whole no_read no_write no_link no_lines = own_well command taken g answer whole answers
 
 -- such a command comes to an end where no count rose
-pub told_complete : (o : Option Held) (command : Option Command) (old new : Network) (answer : Status) (a b c d e f h k : ℕ)
+pub told_complete : (o : Option FileSet) (command : Option Invocation) (old new : Network) (answer : Status) (a b c d e f h k : ℕ)
     → Took command old new (λ taken. Where o (λ g. Answers (outcome_of command taken g) answer))
     → (answer ≡ status.ReadFault → Rose a b) → (answer ≡ status.WriteFault → Rose c d) → (answer ≡ status.NetFault → Rose e f ⊎ Rose h k)
     → Where o (λ g. IsComplete command g → ¬ Rose a b → ¬ Rose c d → ¬ Rose e f → ¬ Rose h k → Took command old new (λ taken. EndsWhole command answer))

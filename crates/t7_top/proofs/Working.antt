@@ -9,7 +9,7 @@ use Rattle.t7_gather.specs.Gathering.{client_of, report_at}
 use Rattle.t7_gather.specs.Turns.{turns}
 use Rattle.t7_outcome.specs.declared.ending.Stop.TheVariants.{WriteFault}
 use Rattle.t7_outcome.specs.Ending.{Ended}
-use Rattle.t7_outcome.specs.Outcome.{Ends, Held, Wrote}
+use Rattle.t7_outcome.specs.Outcome.{Ends, FileSet, Wrote}
 use Rattle.t7_outcome.specs.Performing.{WroteSink}
 use Rattle.t7_serve.specs.Clauses.{CastAt, OfServe, OfTakings, SentAt}
 use Rattle.t7_serve.specs.Served.{done_by, served}
@@ -23,7 +23,7 @@ use Rattle.t7_top.proofs.Gathering.{Undialed, gathered_sent, gathered_sink}
 use Rattle.t7_top.proofs.Performing.{job_sent, job_sink}
 use Rattle.t7_top.proofs.Serving.{served_sent, served_sink}
 
-module _ (job : Job) (terms : Terms) (ended : Ended) (o : Option Held) (old new : Network) where
+module _ (job : Job) (terms : Terms) (ended : Ended) (o : Option FileSet) (old new : Network) where
   pub exchange_sink : (listen : List ℕ) (feeds : Feeds) (count : ℕ) (p : Option (List ℕ)) (n : ℕ) → job ≡ Exchange listen feeds count
       → OfTakings old.events new.events old.moments new.moments (λ taken. Ends (served {Moment = Unit {0}} terms count taken) ended) → IfErr ended OfServe
       → JobTook job old new (λ taken. WroteSink IsReported (started terms job taken) ended o p p n n)

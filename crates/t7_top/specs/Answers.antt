@@ -2,7 +2,7 @@
 use Rattle.std.specs.Prelude.{Option, None, Some}
 use Rattle.t7_outcome.specs.declared.ending.Status.{Status}
 use Rattle.t7_outcome.specs.declared.ending.Status.TheVariants as status
-use Rattle.t7_top.specs.Words.{Command, Over, Check, Drill, Help, Version, Job, Replay, Exchange, Member, Gather}
+use Rattle.t7_top.specs.Words.{Invocation, Over, Check, Drill, Help, Version, Job, Replay, Exchange, Member, Gather}
 
 -- The answers to words that are no form of a command; here and below the last line may meet a write fault.
 abbrev pub RefusesWords : Status → Type 0
@@ -51,7 +51,7 @@ DoesJob (Gather address session count) status.Unfinished = Unit {0}
 DoesJob job _ = ⊥
 
 -- The answers that a command may give at all, whatever the files hold and the network gives.
-abbrev pub MayAnswer : Option Command → Status → Type 0
+abbrev pub MayAnswer : Option Invocation → Status → Type 0
 MayAnswer None answer = RefusesWords answer
 MayAnswer (Some (Over table product job)) answer = DoesJob job answer
 MayAnswer (Some (Check table)) answer = ChecksTable answer

@@ -18,12 +18,12 @@ abbrev pub template_line : Layout → List ℕ
 template_line t = family_text t.family ++ codes " " ++ decimal t.id ++ codes " " ++ t.name ++ codes " " ++ decimal t.size
 
 -- a line for each template, and their number at the end
-abbrev pub listing : List Layout → Outcome Moment
-listing layouts = record { names = []; parts = says (map template_line layouts); end = Some (Ok (End (length layouts))) }
+abbrev pub check_lines : List Layout → Outcome Moment
+check_lines layouts = record { names = []; parts = says (map template_line layouts); end = Some (Ok (End (length layouts))) }
 
 -- `check TABLE`
-abbrev pub listed : List ℕ → Given → Outcome Moment
-listed table given = taking table given.files (λ rows. checked (fault_of (records_of rows)) (listing (table_of (records_of rows))))
+abbrev pub check_run : List ℕ → Given → Outcome Moment
+check_run table given = taking table given.files (λ rows. checked (fault_of (records_of rows)) (check_lines (table_of (records_of rows))))
 
 -- the stops of `check`
 abbrev pub OfCheck : Stop → Type 0

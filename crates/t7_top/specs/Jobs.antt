@@ -21,7 +21,7 @@ use Rattle.t7_replay.specs.World.{new_world}
 use Rattle.t7_serve.specs.Clauses.{OfServe}
 use Rattle.t7_serve.specs.Served.{served, takings}
 use Rattle.t7_top.specs.Moments.{Moment, OfMember, OfScript, outcome_as}
-use Rattle.t7_top.specs.Network.{Taken}
+use Rattle.t7_top.specs.Network.{Intake}
 use Rattle.t7_top.specs.Refusals.{checked, checked_product}
 use Rattle.t7_top.specs.Words.{Job, Replay, Exchange, Member, Gather}
 
@@ -40,23 +40,23 @@ dialed_on terms session count (Some conn) events = gathered count conn (client_o
 
 -- What a job comes to over a valid table and a valid product, by what it takes from outside: `replay` takes its script and plays it from the first line; the
 -- others come to what the events, receipts and moments say.
-abbrev pub started : Terms → Job → Taken → Given → Outcome Moment
+abbrev pub started : Terms → Job → Intake → Given → Outcome Moment
 started terms (Replay script) taken given = taking script given.files (script_played terms)
 started terms (Exchange listen feeds count) taken given = served terms count (takings taken.events taken.moments)
 started terms (Member feeds count) taken given = outcome_as OfMember (followed terms count (reverse taken.receipts))
 started terms (Gather address session count) taken given = dialed_on terms session count (conn_of taken.dials) (reverse taken.events)
 
 -- the product file is taken behind a valid table, and the job is started behind a valid product
-abbrev pub traded : List Layout → List ℕ → Job → Taken → Given → Outcome Moment
-traded layouts product job taken given =
+abbrev pub over_product : List Layout → List ℕ → Job → Intake → Given → Outcome Moment
+over_product layouts product job taken given =
     taking product given.files (λ items. checked_product (product_fault_of (records_of items))
     (started (terms_of layouts (product_of (records_of items))) job taken given))
 
 -- a job with the table, the product and what else its words name
-abbrev pub worked : List ℕ → List ℕ → Job → Taken → Given → Outcome Moment
-worked table product job taken given =
+abbrev pub over_table : List ℕ → List ℕ → Job → Intake → Given → Outcome Moment
+over_table table product job taken given =
     taking table given.files (λ rows. checked (fault_of (records_of rows))
-    (traded (table_of (records_of rows)) product job taken given))
+    (over_product (table_of (records_of rows)) product job taken given))
 
 -- the stops of a job that was started
 abbrev pub OfWork : Job → Stop → Type 0

@@ -16,14 +16,14 @@ use Rattle.t7_net.specs.declared.link.LinkItem.{LinkItem}
 use Rattle.t7_outcome.specs.declared.ending.Status.{Status}
 use Rattle.t7_outcome.specs.declared.ending.Stop.TheVariants.{Layout as LayoutStop, Product, ReadFault, TooLong, Memory}
 use Rattle.t7_outcome.specs.Ending.{Ended}
-use Rattle.t7_outcome.specs.Outcome.{ClosesAs, Held, Where}
+use Rattle.t7_outcome.specs.Outcome.{ClosesAs, FileSet, Where}
 use Rattle.t7_records.specs.Records.{records_of}
 use Rattle.t7_serve.specs.Clauses as serve
 use Rattle.t7_serve.specs.Served.{done_by, takings}
 use Rattle.t7_top.specs.Jobs.{terms_of}
-use Rattle.t7_top.specs.Network.{Network, Taken, Took}
+use Rattle.t7_top.specs.Network.{Network, Intake, Took}
 use Rattle.t7_top.specs.Whole.{IsWholeProduct, IsWholeTable}
-use Rattle.t7_top.specs.Words.{Command, Over, Feeds, Job, Replay, Exchange, Member, Gather}
+use Rattle.t7_top.specs.Words.{Invocation, Over, Feeds, Job, Replay, Exchange, Member, Gather}
 
 -- the four feeds are bound, for listening or for sending, each to its address
 abbrev pub binds_of : Bool → Feeds → List Bind
@@ -67,7 +67,7 @@ abbrev pub UsedOrNot : Job → Ended → Network → Network → Type 0
 UsedOrNot job ended old new = Uses job ended old new ⊎ OfFiles ended × (new ≡ old)
 
 -- The same of a command: only the jobs use it.
-abbrev pub UsedBy : Option Command → Ended → Network → Network → Type 0
+abbrev pub UsedBy : Option Invocation → Ended → Network → Network → Type 0
 UsedBy (Some (Over table product job)) ended old new = UsedOrNot job ended old new
 UsedBy command ended old new = new ≡ old
 
@@ -80,7 +80,7 @@ GathererSent terms session count (Some conn) events ended old new =
 
 -- What a job sent over this table and this product, by what it took: `exchange` the replies and closes of its events on its connections, and each
 -- datagram that they bring on line A and then on line B; `gather` what its client queued; of which a fault or want of memory cuts off the end.
-abbrev pub Sent : Terms → Job → Taken → Ended → Network → Network → Type 0
+abbrev pub Sent : Terms → Job → Intake → Ended → Network → Network → Type 0
 Sent terms (Exchange listen feeds count) taken ended old new =
     let turn = done_by terms (takings taken.events taken.moments) in
     Grew old.sent new.sent (serve.SentAt turn.sent ended) × Grew old.cast new.cast (serve.CastAt turn.cast ended)
@@ -89,22 +89,22 @@ Sent terms (Gather address session count) taken ended old new =
 Sent terms job taken ended old new = Unit {0}
 
 -- it did so, or it was stopped before it was started
-abbrev pub SentOrNot : Terms → Job → Taken → Ended → Network → Network → Type 0
+abbrev pub SentOrNot : Terms → Job → Intake → Ended → Network → Network → Type 0
 SentOrNot terms job taken ended old new = Sent terms job taken ended old new ⊎ OfFiles ended × (new ≡ old)
 
 -- What a job sent over this table and a product file that is whole.
-abbrev pub SentBehind : List Layout → List ℕ → Held → Job → Taken → Ended → Network → Network → Type 0
+abbrev pub SentBehind : List Layout → List ℕ → FileSet → Job → Intake → Ended → Network → Network → Type 0
 SentBehind layouts product held job taken ended old new =
     (products : IsWholeProduct product held) → SentOrNot (terms_of layouts (product_of (records_of products.items))) job taken ended old new
 
 -- What a command sent, where its files are whole.
-abbrev pub SentBy : Option Command → Held → Taken → Ended → Network → Network → Type 0
+abbrev pub SentBy : Option Invocation → FileSet → Intake → Ended → Network → Network → Type 0
 SentBy (Some (Over table product job)) held taken ended old new =
     (tables : IsWholeTable table held) → SentBehind (table_of (records_of tables.rows)) product held job taken ended old new
 SentBy command held taken ended old new = Unit {0}
 
 -- A run with that answer used the network as its command does, and sent what its command sends.
-abbrev pub RanOn : Option Command → Status → Option Held → Network → Network → Type 0
+abbrev pub RanOn : Option Invocation → Status → Option FileSet → Network → Network → Type 0
 RanOn command answer held old new =
     (ended : Ended) × ClosesAs ended answer × UsedBy command ended old new
     × Took command old new (λ taken. Where held (λ given. SentBy command given.files taken ended old new))

@@ -19,12 +19,12 @@ pub data Job : Type 0 where
   Gather : (address : List ℕ) (session count : ℕ) → Job
 
 -- a command with its words
-pub data Command : Type 0 where
-  Over : (table product : List ℕ) (job : Job) → Command
-  Check : (table : List ℕ) → Command
-  Drill : (seed orders : ℕ) → Command
-  Help : Command
-  Version : Command
+pub data Invocation : Type 0 where
+  Over : (table product : List ℕ) (job : Job) → Invocation
+  Check : (table : List ℕ) → Invocation
+  Drill : (seed orders : ℕ) → Invocation
+  Help : Invocation
+  Version : Invocation
 
 -- the plain decimal number that a word is, where it is at most `most`
 abbrev pub number_up_to : ℕ → List ℕ → Option ℕ
@@ -47,11 +47,11 @@ abbrev pub is_help : List ℕ → Bool
 is_help word = bytes_eq word (codes "--help") || bytes_eq word (codes "-h") || bytes_eq word (codes "help")
 
 -- the command that a word alone is a form of
-abbrev pub lone_command : List ℕ → Option Command
+abbrev pub lone_command : List ℕ → Option Invocation
 lone_command word = if is_help word then Some Help else if bytes_eq word (codes "--version") then Some Version else None
 
 -- a drill, where its SEED is a number of 64 bits and its ORDERS one up to 20,000
-abbrev pub drill_of : List ℕ → List ℕ → Option Command
+abbrev pub drill_of : List ℕ → List ℕ → Option Invocation
 drill_of seed orders =
     option_and_then (λ first. option_map (λ number. Drill first number) (number_up_to 20_000 orders)) (number_up_to 18_446_744_073_709_551_615 seed)
 
@@ -81,11 +81,11 @@ job_of name (listen ∷ live_a ∷ live_b ∷ snap_a ∷ snap_b ∷ count ∷ []
 job_of name _ = None
 
 -- a command with these words behind its name, of which the first two name files
-abbrev pub over : List ℕ → List ℕ → List ℕ → List (List ℕ) → Option Command
+abbrev pub over : List ℕ → List ℕ → List ℕ → List (List ℕ) → Option Invocation
 over name table product more = option_map (λ job. Over table product job) (job_of name more)
 
 -- the command that the words are a form of
-abbrev pub command_of : List (List ℕ) → Option Command
+abbrev pub command_of : List (List ℕ) → Option Invocation
 command_of (word ∷ []) = lone_command word
 command_of (name ∷ table ∷ []) = if bytes_eq name (codes "check") then Some (Check table) else None
 command_of (name ∷ first ∷ second ∷ []) = if bytes_eq name (codes "drill") then drill_of first second else None
@@ -98,7 +98,7 @@ scripts_of (Replay script) = script ∷ []
 scripts_of job = []
 
 -- the words of a command that name a file, in the order in which the files are read
-abbrev pub files_of : Option Command → List (List ℕ)
+abbrev pub files_of : Option Invocation → List (List ℕ)
 files_of (Some (Over table product job)) = table ∷ product ∷ scripts_of job
 files_of (Some (Check table)) = table ∷ []
 files_of _ = []

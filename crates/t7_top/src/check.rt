@@ -5,7 +5,7 @@ ghost use Rattle.t7_layout.specs.Texts.{table_text};
 ghost use Rattle.t7_outcome.specs.Performing.{TookFiles, WroteSink};
 ghost use Rattle.t7_outcome.specs.Steps.{OfPrint};
 ghost use Rattle.t7_top.specs.Moments.{IsReported};
-ghost use Rattle.t7_top.specs.Check.{OfCheck, listed};
+ghost use Rattle.t7_top.specs.Check.{OfCheck, check_run};
 
 use crate::inputs::read_table;
 use std::alloc::Global;
@@ -20,9 +20,9 @@ pub fn run_check<F: Files, S: Sink>(
     files: &mut F,
     sink: &mut S,
 ) -> Result<Finish, Stop>
-    ensures files { TookFiles (listed table.now) (table.now ∷ []) result
+    ensures files { TookFiles (check_run table.now) (table.now ∷ []) result
         (F.held files.old) (F.asked files.old) (F.asked files.new) (F.faults files.old) (F.faults files.new) }
-    ensures sink { WroteSink IsReported (listed table.now) result
+    ensures sink { WroteSink IsReported (check_run table.now) result
         (F.held files.old) (S.written sink.old) (S.written sink.new) (S.faults sink.old) (S.faults sink.new) }
     ensures only { IfErr result OfCheck }
     ensures unread { result ≡ Err Stop.ReadFault → S.written sink.new ≡ S.written sink.old }

@@ -5,10 +5,10 @@ ghost use Rattle.t7_follow.specs.Clauses as following;
 ghost use Rattle.t7_outcome.specs.Outcome.{Where, taking};
 ghost use Rattle.t7_outcome.specs.Performing.{TookFiles, WroteSink};
 ghost use Rattle.t7_serve.specs.Clauses as serving;
-ghost use Rattle.t7_top.specs.Jobs.{OfJob, OfWork, script_played, started, terms_of, traded, worked};
+ghost use Rattle.t7_top.specs.Jobs.{OfJob, OfWork, script_played, started, terms_of, over_product, over_table};
 ghost use Rattle.t7_top.specs.Meaning.{IsWithinJob, feeds_meant, job_meant};
 ghost use Rattle.t7_top.specs.Moments.{IsReported};
-ghost use Rattle.t7_top.specs.Network.{JobTook, seen, untaken};
+ghost use Rattle.t7_top.specs.Network.{JobTook, seen, no_intake};
 ghost use Rattle.t7_top.specs.Using.{SentBehind, SentBy, SentOrNot, UsedOrNot, binds_of};
 ghost use Rattle.t7_top.specs.Words as words;
 
@@ -37,12 +37,13 @@ pub fn run_job<F: Files, S: Sink, L: Link, D: Lines, C: Clock>(
     clock: &mut C,
 ) -> Result<Finish, Stop>
     requires { IsWithinJob job.now }
-    ensures files { TookFiles (worked table.now product.now (job_meant job.now) untaken) (table.now ∷ product.now ∷ words.scripts_of (job_meant job.now)) result
+    ensures files { TookFiles (over_table table.now product.now (job_meant job.now) no_intake)
+        (table.now ∷ product.now ∷ words.scripts_of (job_meant job.now)) result
         (F.held files.old) (F.asked files.old) (F.asked files.new) (F.faults files.old) (F.faults files.new) }
     ensures sink { JobTook (job_meant job.now)
         (seen (L.asked link.old) (L.events link.old) (L.sent link.old) (D.asked lines.old) (D.taken lines.old) (D.cast lines.old) (C.given clock.old))
         (seen (L.asked link.new) (L.events link.new) (L.sent link.new) (D.asked lines.new) (D.taken lines.new) (D.cast lines.new) (C.given clock.new))
-        (λ taken. WroteSink IsReported (worked table.now product.now (job_meant job.now) taken) result
+        (λ taken. WroteSink IsReported (over_table table.now product.now (job_meant job.now) taken) result
         (F.held files.old) (S.written sink.old) (S.written sink.new) (S.faults sink.old) (S.faults sink.new)) }
     ensures network { UsedOrNot (job_meant job.now) result
         (seen (L.asked link.old) (L.events link.old) (L.sent link.old) (D.asked lines.old) (D.taken lines.old) (D.cast lines.old) (C.given clock.old))
@@ -80,12 +81,12 @@ fn trade<F: Files, S: Sink, L: Link, D: Lines, C: Clock>(
     clock: &mut C,
 ) -> Result<Finish, Stop>
     requires { IsWithinJob job.now }
-    ensures files { TookFiles (traded table.now product.now (job_meant job.now) untaken) (product.now ∷ words.scripts_of (job_meant job.now)) result
+    ensures files { TookFiles (over_product table.now product.now (job_meant job.now) no_intake) (product.now ∷ words.scripts_of (job_meant job.now)) result
         (F.held files.old) (F.asked files.old) (F.asked files.new) (F.faults files.old) (F.faults files.new) }
     ensures sink { JobTook (job_meant job.now)
         (seen (L.asked link.old) (L.events link.old) (L.sent link.old) (D.asked lines.old) (D.taken lines.old) (D.cast lines.old) (C.given clock.old))
         (seen (L.asked link.new) (L.events link.new) (L.sent link.new) (D.asked lines.new) (D.taken lines.new) (D.cast lines.new) (C.given clock.new))
-        (λ taken. WroteSink IsReported (traded table.now product.now (job_meant job.now) taken) result
+        (λ taken. WroteSink IsReported (over_product table.now product.now (job_meant job.now) taken) result
         (F.held files.old) (S.written sink.old) (S.written sink.new) (S.faults sink.old) (S.faults sink.new)) }
     ensures network { UsedOrNot (job_meant job.now) result
         (seen (L.asked link.old) (L.events link.old) (L.sent link.old) (D.asked lines.old) (D.taken lines.old) (D.cast lines.old) (C.given clock.old))
@@ -123,7 +124,7 @@ fn work<F: Files, S: Sink, L: Link, D: Lines, C: Clock>(
     clock: &mut C,
 ) -> Result<Finish, Stop>
     requires { IsWithinJob job.now }
-    ensures files { TookFiles (started (terms_of table.now product.now) (job_meant job.now) untaken) (words.scripts_of (job_meant job.now)) result
+    ensures files { TookFiles (started (terms_of table.now product.now) (job_meant job.now) no_intake) (words.scripts_of (job_meant job.now)) result
         (F.held files.old) (F.asked files.old) (F.asked files.new) (F.faults files.old) (F.faults files.new) }
     ensures sink { JobTook (job_meant job.now)
         (seen (L.asked link.old) (L.events link.old) (L.sent link.old) (D.asked lines.old) (D.taken lines.old) (D.cast lines.old) (C.given clock.old))

@@ -6,7 +6,7 @@ ghost use Rattle.t7_outcome.specs.Outcome.{Where, Answers, Printed, Asked, Asked
 ghost use Rattle.t7_outcome.specs.Performing.{TookFiles, WroteSink};
 ghost use Rattle.t7_top.specs.Answers.{MayAnswer};
 ghost use Rattle.t7_top.specs.Moments.{IsReported};
-ghost use Rattle.t7_top.specs.Network.{Took, seen, untaken};
+ghost use Rattle.t7_top.specs.Network.{Took, seen, no_intake};
 ghost use Rattle.t7_top.specs.Outcomes.{outcome_of};
 ghost use Rattle.t7_top.specs.Text.{Tells, Told};
 ghost use Rattle.t7_top.specs.Using.{RanOn, SentBy, UsedBy};
@@ -17,7 +17,7 @@ use crate::check::run_check;
 use crate::exercise::exercise;
 use crate::jobs::run_job;
 use crate::text::{HELP, VERSION, tell};
-use crate::words::{Command, read_words};
+use crate::words::{Invocation, read_words};
 use std::alloc::Global;
 use t7_base::{Files, Sink};
 use t7_net::{Clock, Lines, Link};
@@ -66,7 +66,7 @@ pub fn run<F: Files, S: Sink, L: Link, D: Lines, C: Clock>(
     // The files that its words name are taken, in order and once each, at Done all of them.
     ensures asked { Grew (F.asked files.old) (F.asked files.new) (AskedOf (files_of (command_of (map string_bytes words.now))) result) }
     ensures took { Where (F.held files.old) (λ given. Grew (F.asked files.old) (F.asked files.new)
-        (Asked (outcome_of (command_of (map string_bytes words.now)) untaken given) result)) }
+        (Asked (outcome_of (command_of (map string_bytes words.now)) no_intake given) result)) }
 
     // The network is used as the command uses it: what it listens at, dials and binds is that of its words in their order, and no more is taken than its COUNT.
     // A command that isn't one of the network, or that its files stop, leaves the network and the clock alone.
@@ -106,7 +106,7 @@ fn perform<F: Files, S: Sink, L: Link, D: Lines, C: Clock>(
     lines: &mut D,
     clock: &mut C,
 ) -> Result<Finish, Stop>
-    ensures files { TookFiles (outcome_of (command_of (map string_bytes words.now)) untaken) (files_of (command_of (map string_bytes words.now))) result
+    ensures files { TookFiles (outcome_of (command_of (map string_bytes words.now)) no_intake) (files_of (command_of (map string_bytes words.now))) result
         (F.held files.old) (F.asked files.old) (F.asked files.new) (F.faults files.old) (F.faults files.new) }
     ensures sink { Took (command_of (map string_bytes words.now))
         (seen (L.asked link.old) (L.events link.old) (L.sent link.old) (D.asked lines.old) (D.taken lines.old) (D.cast lines.old) (C.given clock.old))
@@ -134,16 +134,16 @@ fn perform<F: Files, S: Sink, L: Link, D: Lines, C: Clock>(
 {
     match read_words(words) {
         Some(
-            Command::Over {
+            Invocation::Over {
                 table,
                 product,
                 job,
             },
         ) => run_job(alloc, table, product, &job, files, sink, link, lines, clock),
-        Some(Command::Check { table }) => run_check(alloc, table, files, sink),
-        Some(Command::Drill { seed, orders }) => { exercise(alloc, seed, orders, sink) }
-        Some(Command::Help) => tell(HELP, sink),
-        Some(Command::Version) => tell(VERSION, sink),
+        Some(Invocation::Check { table }) => run_check(alloc, table, files, sink),
+        Some(Invocation::Drill { seed, orders }) => { exercise(alloc, seed, orders, sink) }
+        Some(Invocation::Help) => tell(HELP, sink),
+        Some(Invocation::Version) => tell(VERSION, sink),
         None => Err(Stop::Usage),
     }
 }

@@ -56,7 +56,7 @@ pub enum Job<'a> {
 
 /// A command with its words.
 #[derive(Clone, Copy, Debug)]
-pub enum Command<'a> {
+pub enum Invocation<'a> {
     /// A job over a table and a product, the names of two files.
     Over {
         table: &'a str,
@@ -79,13 +79,13 @@ pub enum Command<'a> {
 }
 
 /// The command that the words are a form of, where they are one.
-pub fn read_words<'a>(words: &'a [String]) -> Option<Command<'a>>
+pub fn read_words<'a>(words: &'a [String]) -> Option<Invocation<'a>>
     ensures value { meant result ≡ spec.command_of (map string_bytes words.now) }
     ensures limits { IfSome result IsWithin }
 {
     match words {
         [word] => lone_command(word.as_str()),
-        [name, table] if name.as_str() == "check" => Some(Command::Check {
+        [name, table] if name.as_str() == "check" => Some(Invocation::Check {
             table: table.as_str(),
         }),
         [name, seed, orders] if name.as_str() == "drill" => {
@@ -99,12 +99,17 @@ pub fn read_words<'a>(words: &'a [String]) -> Option<Command<'a>>
 }
 
 // A command with these words behind its name, of which the first two name files.
-fn over<'a>(name: &str, table: &'a str, product: &'a str, more: &'a [String]) -> Option<Command<'a>>
+fn over<'a>(
+    name: &str,
+    table: &'a str,
+    product: &'a str,
+    more: &'a [String],
+) -> Option<Invocation<'a>>
     ensures value { meant result ≡ spec.over name.now table.now product.now (map string_bytes more.now) }
     ensures limits { IfSome result IsWithin }
 {
     match job_of(name, more) {
-        Some(job) => Some(Command::Over {
+        Some(job) => Some(Invocation::Over {
             table,
             product,
             job,
@@ -114,27 +119,27 @@ fn over<'a>(name: &str, table: &'a str, product: &'a str, more: &'a [String]) ->
 }
 
 // The command that a word alone is a form of.
-fn lone_command<'a>(word: &str) -> Option<Command<'a>>
+fn lone_command<'a>(word: &str) -> Option<Invocation<'a>>
     ensures value { meant result ≡ spec.lone_command word.now }
     ensures limits { IfSome result IsWithin }
 {
     if word == "--help" || word == "-h" || word == "help" {
-        Some(Command::Help)
+        Some(Invocation::Help)
     } else if word == "--version" {
-        Some(Command::Version)
+        Some(Invocation::Version)
     } else {
         None
     }
 }
 
 // A drill with this SEED and these ORDERS.
-fn drill_of<'a>(seed: &[u8], orders: &[u8]) -> Option<Command<'a>>
+fn drill_of<'a>(seed: &[u8], orders: &[u8]) -> Option<Invocation<'a>>
     ensures value { meant result ≡ spec.drill_of seed.now orders.now }
     ensures limits { IfSome result IsWithin }
 {
     let seed = decimal(seed, u64::MAX)?;
     let orders = decimal(orders, GREATEST_ORDERS)?;
-    Some(Command::Drill {
+    Some(Invocation::Drill {
         seed,
         orders: orders as u32,
     })

@@ -3,7 +3,7 @@ use Rattle.t7_layout.specs.Faults.{fault_of}
 use Rattle.t7_layout.specs.Tables.{table_of}
 use Rattle.t7_outcome.proofs.Taking.{sink_missed}
 use Rattle.t7_records.specs.Records.{records_of}
-use Rattle.t7_top.specs.Check.{listing}
+use Rattle.t7_top.specs.Check.{check_lines}
 use Rattle.t7_top.specs.Moments.{IsReported}
 use Rattle.t7_top.specs.Refusals.{RefusesTable, checked}
 use Rattle.t7_top.proofs.Listing.{listed_sink}
@@ -14,14 +14,14 @@ pub returns-in_err-fetch-clause-sink : goal.returns-in_err-fetch-clause-sink
 returns-in_err-fetch-clause-sink g c =
     let is : c.from_residual.result ≡ Err c.in_err-fetch.field-0.0 = search rules in
     rw is (sink_missed IsReported _ _ c.args.table.now
-    (λ given rows. checked (fault_of (records_of rows)) (listing (table_of (records_of rows))))
+    (λ given rows. checked (fault_of (records_of rows)) (check_lines (table_of (records_of rows))))
     c.in_err-fetch.field-0.0 _ c.in_err-fetch.ensures.no_other (λ long. search rules))
 
 pub returns-in_err-table-clause-sink : goal.returns-in_err-table-clause-sink
 returns-in_err-table-clause-sink g c =
     let is : c.from_residual-in_err-table.result ≡ Err c.in_err-table.field-0.0 = search rules in
     let refused : RefusesTable (fault_of (records_of c.fetch.new.into.items)) c.in_err-table.field-0.0 = search rules in
-    rw is (table_refused _ _ c.args.table.now c.fetch.new.into.items (λ layouts given. listing layouts)
+    rw is (table_refused _ _ c.args.table.now c.fetch.new.into.items (λ layouts given. check_lines layouts)
     c.in_err-table.field-0.0 _ c.in_ok-fetch.ensures.ok refused)
 
 pub returns-clause-sink : goal.returns-clause-sink

@@ -2,9 +2,9 @@ use Rattle.std.proofs.Common.{rules, ◌≡◌, None, Err}
 use Rattle.t7_layout.specs.Faults.{fault_of}
 use Rattle.t7_layout.specs.Tables.{table_of}
 use Rattle.t7_records.specs.Records.{records_of}
-use Rattle.t7_top.specs.Jobs.{traded, worked}
+use Rattle.t7_top.specs.Jobs.{over_product, over_table}
 use Rattle.t7_top.specs.Meaning.{job_meant}
-use Rattle.t7_top.specs.Network.{untaken}
+use Rattle.t7_top.specs.Network.{no_intake}
 use Rattle.t7_top.specs.Refusals.{RefusesTable}
 use Rattle.t7_top.proofs.Doing.{none_sent, of_fetch, of_table, table_bad, table_good, table_missed, table_sent, unused}
 use Rattle.t7_top.proofs.Reading.{files_more, table_names}
@@ -49,10 +49,10 @@ returns-clause-files g c =
     let valid : fault_of (records_of c.fetch.new.into.items) ≡ None = search rules in
     let same : c.in_ok-table.table ≡ table_of (records_of c.fetch.new.into.items) = search rules in
     let names = table_names (g.F.Files.held c.args.files.now) c.args.table.now c.fetch.new.into.items c.in_ok-table.table
-    (λ layouts given. traded layouts c.args.product.now (job_meant c.args.job.now) untaken given) same c.in_ok-fetch.ensures.ok valid in
+    (λ layouts given. over_product layouts c.args.product.now (job_meant c.args.job.now) no_intake given) same c.in_ok-fetch.ensures.ok valid in
     let rest = rw c.fetch.ensures.held at c.trade.ensures.files in
-    files_more (g.F.Files.held c.args.files.now) (worked c.args.table.now c.args.product.now (job_meant c.args.job.now) untaken)
-    (traded c.in_ok-table.table c.args.product.now (job_meant c.args.job.now) untaken) c.args.table.now _ _ _ _ _ _ _ _ names
+    files_more (g.F.Files.held c.args.files.now) (over_table c.args.table.now c.args.product.now (job_meant c.args.job.now) no_intake)
+    (over_product c.in_ok-table.table c.args.product.now (job_meant c.args.job.now) no_intake) c.args.table.now _ _ _ _ _ _ _ _ names
     c.fetch.ensures.asked c.fetch.ensures.count rest
 
 pub returns-clause-sink : goal.returns-clause-sink

@@ -1,9 +1,9 @@
 use Rattle.std.proofs.Common.{rules, ◌≡◌, None, Err}
 use Rattle.t7_base.specs.ProductFile.{fault_of as product_fault_of, product_of}
 use Rattle.t7_records.specs.Records.{records_of}
-use Rattle.t7_top.specs.Jobs.{started, terms_of, traded}
+use Rattle.t7_top.specs.Jobs.{started, terms_of, over_product}
 use Rattle.t7_top.specs.Meaning.{job_meant}
-use Rattle.t7_top.specs.Network.{untaken}
+use Rattle.t7_top.specs.Network.{no_intake}
 use Rattle.t7_top.specs.Refusals.{RefusesProduct}
 use Rattle.t7_top.proofs.Doing.{none_sent_behind, of_fetch, of_product, product_bad, product_good, product_missed, product_sent, unused}
 use Rattle.t7_top.proofs.Reading.{files_more, product_names}
@@ -48,10 +48,10 @@ returns-clause-files g c =
     let valid : product_fault_of (records_of c.fetch.new.into.items) ≡ None = search rules in
     let same : c.in_ok-product.product ≡ product_of (records_of c.fetch.new.into.items) = search rules in
     let names = product_names (g.F.Files.held c.args.files.now) c.args.product.now c.fetch.new.into.items c.in_ok-product.product
-    (λ listing given. started (terms_of c.args.table.now listing) (job_meant c.args.job.now) untaken given) same c.in_ok-fetch.ensures.ok valid in
+    (λ listing given. started (terms_of c.args.table.now listing) (job_meant c.args.job.now) no_intake given) same c.in_ok-fetch.ensures.ok valid in
     let rest = rw c.fetch.ensures.held at c.work.ensures.files in
-    files_more (g.F.Files.held c.args.files.now) (traded c.args.table.now c.args.product.now (job_meant c.args.job.now) untaken)
-    (started (terms_of c.args.table.now c.in_ok-product.product) (job_meant c.args.job.now) untaken) c.args.product.now _ _ _ _ _ _ _ _ names
+    files_more (g.F.Files.held c.args.files.now) (over_product c.args.table.now c.args.product.now (job_meant c.args.job.now) no_intake)
+    (started (terms_of c.args.table.now c.in_ok-product.product) (job_meant c.args.job.now) no_intake) c.args.product.now _ _ _ _ _ _ _ _ names
     c.fetch.ensures.asked c.fetch.ensures.count rest
 
 pub returns-clause-sink : goal.returns-clause-sink

@@ -5,7 +5,7 @@ use Rattle.t7_gather.specs.Clauses.{OfGather}
 use Rattle.t7_serve.specs.Clauses.{OfServe}
 use Rattle.t7_top.specs.Jobs.{started, terms_of}
 use Rattle.t7_top.specs.Meaning.{feeds_meant, job_meant}
-use Rattle.t7_top.specs.Network.{untaken}
+use Rattle.t7_top.specs.Network.{no_intake}
 use Rattle.t7_top.specs.Words as words
 use Rattle.t7_top.proofs.Following.{followed_names}
 use Rattle.t7_top.proofs.Performing.{job_files, no_read}
@@ -19,7 +19,7 @@ returns-in-Exchange-clause-files g c =
     let job : words.Job = words.Exchange c.in-Exchange.listen.now (feeds_meant c.in-Exchange.feeds) c.in-Exchange.count in
     let is : job_meant c.args.job.now ≡ job = ap job_meant c.in-Exchange.is in
     job_files _ job is terms c.serve.result _ _ _ _ _
-    (files_none _ _ (started terms job untaken) c.serve.result _ (λ given. refl) (no_read OfServe c.serve.result (λ none. none) c.serve.ensures.only))
+    (files_none _ _ (started terms job no_intake) c.serve.result _ (λ given. refl) (no_read OfServe c.serve.result (λ none. none) c.serve.ensures.only))
 
 pub returns-in-Exchange-clause-sink : goal.returns-in-Exchange-clause-sink
 returns-in-Exchange-clause-sink g c =
@@ -44,7 +44,7 @@ returns-in-Member-clause-files g c =
     let job : words.Job = words.Member (feeds_meant c.in-Member.feeds) c.in-Member.count in
     let is : job_meant c.args.job.now ≡ job = ap job_meant c.in-Member.is in
     job_files _ job is terms c.follow.result _ _ _ _ _
-    (files_none _ _ (started terms job untaken) c.follow.result _ (λ given. followed_names terms c.in-Member.count (reverse []))
+    (files_none _ _ (started terms job no_intake) c.follow.result _ (λ given. followed_names terms c.in-Member.count (reverse []))
     (no_read OfFollow c.follow.result (λ none. none) c.follow.ensures.only))
 
 pub returns-in-Member-clause-sink : goal.returns-in-Member-clause-sink
@@ -62,7 +62,7 @@ returns-in-Gather-clause-files g c =
     let job : words.Job = words.Gather c.in-Gather.address.now c.in-Gather.session c.in-Gather.count in
     let is : job_meant c.args.job.now ≡ job = ap job_meant c.in-Gather.is in
     job_files _ job is terms c.gather.result _ _ _ _ _
-    (files_none _ _ (started terms job untaken) c.gather.result _ (λ given. refl) (no_read OfGather c.gather.result (λ none. none) c.gather.ensures.only))
+    (files_none _ _ (started terms job no_intake) c.gather.result _ (λ given. refl) (no_read OfGather c.gather.result (λ none. none) c.gather.ensures.only))
 
 pub returns-in-Gather-clause-sink : goal.returns-in-Gather-clause-sink
 returns-in-Gather-clause-sink g c =

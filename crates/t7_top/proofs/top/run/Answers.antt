@@ -2,7 +2,7 @@ use Rattle.std.proofs.Common.{rules, ◌≡◌, ◌≢◌, Err, map, string_byte
 use Rattle.t7_outcome.specs.declared.ending.Status.TheVariants as status
 use Rattle.t7_outcome.specs.declared.ending.Stop.TheVariants.{WriteFault}
 use Rattle.t7_outcome.proofs.Closing.{told_asked}
-use Rattle.t7_top.specs.Network.{untaken}
+use Rattle.t7_top.specs.Network.{no_intake}
 use Rattle.t7_top.specs.Outcomes.{outcome_of}
 use Rattle.t7_top.specs.Words.{command_of}
 use Rattle.t7_top.proofs.Performing.{answered, printed, printed_cut}
@@ -30,7 +30,7 @@ returns-clause-headline g c =
 
 pub returns-clause-took : goal.returns-clause-took
 returns-clause-took g c =
-    told_asked _ _ _ (outcome_of (command_of (map string_bytes c.args.words.now)) untaken) c.perform-ended.result c.close.result
+    told_asked _ _ _ (outcome_of (command_of (map string_bytes c.args.words.now)) no_intake) c.perform-ended.result c.close.result
     c.close.ensures.answer c.perform-ended.ensures.files.took
 
 pub returns-clause-network : goal.returns-clause-network
