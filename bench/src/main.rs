@@ -3,6 +3,7 @@
 mod book;
 mod day;
 mod member;
+mod pack;
 mod packet;
 mod table;
 mod venue;
@@ -10,6 +11,7 @@ mod venue;
 use book::Book;
 use day::{Deliveries, day};
 use member::{Feed, Member, Windows};
+use pack::Packer;
 use packet::{Live, Message, Order, Packet, Previous, Trade};
 use std::time::{Duration, Instant};
 use table::{Channel, Table};
@@ -41,6 +43,14 @@ unsafe extern "C" {
         numbers_length: usize,
     ) -> u64;
 
+    fn t7_bench_pack(
+        table: *const u8,
+        table_length: usize,
+        numbers: *const i64,
+        numbers_length: usize,
+        turns: u32,
+    ) -> u64;
+
     fn t7_bench_member(
         table: *const u8,
         table_length: usize,
@@ -67,6 +77,11 @@ const SIZES: [usize; 2] = [200, 20_000];
 /// The same of an exchange's book, which takes at most 10,000 orders of one security.
 const VENUE_SIZES: [usize; 2] = [200, 18_000];
 const RUNS: usize = 7;
+/// Orders that are packed into one datagram, and how often each datagram is packed.
+const PACKS: [usize; 3] = [1, 8, 30];
+const PACK_TURNS: u32 = 1_000_000;
+const LIMIT: usize = 1472;
+const ADD_NUMBERS: usize = 5;
 const WINDOWS: Windows = Windows {
     messages: 16_384,
     packets: 2048,
@@ -453,6 +468,84 @@ fn compare_books(product: &str) {
     }
 }
 
+fn plain_packs(text: &str, numbers: &[i64], turns: u32) -> u64 {
+    let packer = Packer::read(text);
+    let orders: Vec<Order> = numbers
+        .chunks_exact(ADD_NUMBERS)
+        .map(|row| Order {
+            security: row[0],
+            buys: row[1] == 1,
+            stamp: row[2] as u64,
+            price: row[3],
+            qty: row[4],
+        })
+        .collect();
+    let mut out = [0u8; LIMIT];
+    let mut sum = 0u64;
+    for turn in 0..turns {
+        let number = turn % 1_000_000 + 1;
+        let len = packer.pack(SEGMENT, LIMIT, number, number, &orders, &mut out);
+        sum = sum
+            .wrapping_add(len as u64)
+            .wrapping_add(u64::from(out[turn as usize % 64]));
+    }
+    sum
+}
+
+fn proved_packs(text: &str, numbers: &[i64], turns: u32) -> u64 {
+    // Each pointer is that of a slice of the length beside it, which outlives the call.
+    unsafe {
+        t7_bench_pack(
+            text.as_ptr(),
+            text.len(),
+            numbers.as_ptr(),
+            numbers.len(),
+            turns,
+        )
+    }
+}
+
+/// The numbers of so many new orders: security, side, stamp, price and quantity.
+fn adds(count: usize) -> Vec<i64> {
+    let mut draw = Draw(4);
+    let order = |stamp: usize| {
+        let order = drawn(&mut draw, stamp as u64 + 1);
+        let side = if order.buys { 1 } else { 2 };
+        [
+            order.security,
+            side,
+            order.stamp as i64,
+            order.price,
+            order.qty,
+        ]
+    };
+    (0..count).flat_map(order).collect()
+}
+
+fn compare_packs(table: &str) {
+    for orders in PACKS {
+        let numbers = adds(orders);
+        let turns = PACK_TURNS / orders as u32;
+        compare(
+            &format!("messages packed, {orders} to a datagram"),
+            (orders as u32 * turns) as f64,
+            RUNS,
+            || {
+                beyond(
+                    || proved_packs(table, &numbers, turns),
+                    || proved_packs(table, &numbers, 0),
+                )
+            },
+            || {
+                beyond(
+                    || plain_packs(table, &numbers, turns),
+                    || plain_packs(table, &numbers, 0),
+                )
+            },
+        );
+    }
+}
+
 fn resting(draw: &mut Draw, moment: i64) -> [i64; COMMAND_NUMBERS] {
     let buys = draw.below(2) == 0;
     let price = (if buys { 9000 } else { 10_100 }) + draw.below(1000) as i64;
@@ -623,15 +716,20 @@ fn main() {
         [table, product] => (table, product, None),
         [table, product, only] => (table, product, Some(only.as_str())),
         _ => panic!(
-            "the words are a layout table and a product file, and `member` for the member alone"
+            "the words are a layout table and a product file, and `datagrams` or `member` for one part alone"
         ),
     };
     let table = std::fs::read_to_string(table).unwrap();
     let product = std::fs::read_to_string(product).unwrap();
-    if only.is_none() {
+    if only != Some("member") {
         compare_datagrams(&table);
+        compare_packs(&table);
+    }
+    if only.is_none() {
         compare_books(&product);
         compare_venues(&product);
     }
-    compare_members(&table);
+    if only != Some("datagrams") {
+        compare_members(&table);
+    }
 }

@@ -1,4 +1,4 @@
-// Messages of the live channel, carried out on a member's book.
+//! Messages of the live channel, carried out on a member's book.
 
 use std::alloc::{AllocError, Global};
 use t7_base::{Price, Product, Public, Qty, Resting, SecurityId, Side, Stamp};
@@ -60,7 +60,7 @@ fn partial_of(order: Resting) -> Public {
 
 // The message that nine numbers say: its kind (1 a new order, 2 a change, 3 a deletion, 4 an execution in part), its order
 // and, of a change, the order's previous stamp, price and quantity.
-fn message_of(numbers: &[i64]) -> Option<Public> {
+fn message_in(numbers: &[i64]) -> Option<Public> {
     let (kind, rest) = numbers.split_first()?;
     let (order, previous) = rest.split_at_checked(5)?;
     let order = order_of(order)?;
@@ -77,7 +77,7 @@ fn message_of(numbers: &[i64]) -> Option<Public> {
 fn apply_all(book: &mut MarketBook, numbers: &[i64]) -> u64 {
     let mut fitting = 0u64;
     for row in numbers.chunks_exact(NUMBERS) {
-        if let Some(message) = message_of(row) {
+        if let Some(message) = message_in(row) {
             if book.apply(&message).is_ok() {
                 fitting = fitting.wrapping_add(1);
             }

@@ -1,4 +1,4 @@
-// Datagrams of the live channel, read and walked.
+//! Datagrams of the live channel, read and walked.
 
 ghost use Rattle.std.specs.Prelude.{◌≡◌, ◌≤◌};
 ghost use Rattle.t7_base.specs.declared.ids.Channel.TheVariants as channels;

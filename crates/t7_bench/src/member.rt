@@ -1,4 +1,4 @@
-// Deliveries of both channels, taken by a member.
+//! Deliveries of both channels, taken by a member.
 
 use std::alloc::Global;
 use t7_base::{Feed, Product};

@@ -1,4 +1,4 @@
-// Commands of order entry, carried out on an exchange's book.
+//! Commands of order entry, carried out on an exchange's book.
 
 ghost use Rattle.std.specs.Prelude.{◌≡◌, ◌≤◌, ◌+◌};
 ghost use Rattle.t7_book.specs.Orders.{roster_of};
